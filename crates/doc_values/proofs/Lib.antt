@@ -1,0 +1,5 @@
+pub mod Places
+pub mod Written
+pub mod OneLine
+pub mod Maps
+pub mod Ordered

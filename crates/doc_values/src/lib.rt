@@ -1,0 +1,36 @@
+//! Values, the documents that hold them, and the text of a value in an answer.
+//!
+//! A document is a finite map from names to values: that is the one promise of this crate, with the exact
+//! text of each value. It knows nothing of where a document comes from, how it is stored or who asks.
+//! Read `specs/Value.antt` first, then `specs/Doc.antt`.
+#![tactic(auto)]
+
+mod argv;
+mod attr_id;
+mod bytes;
+mod calls;
+mod col_ref;
+mod compare_op;
+mod comparing;
+mod doc;
+mod kind;
+mod laws;
+mod spelling;
+#[cfg(test)]
+mod tests;
+mod utf;
+mod value;
+
+pub use argv::Argv;
+pub use attr_id::AttrId;
+pub use bytes::Bytes;
+pub use calls::Calls;
+pub use col_ref::ColRef;
+pub use compare_op::CompareOp;
+pub use comparing::{compare, order};
+pub use doc::Doc;
+pub use kind::Kind;
+pub use laws::{documents_are_maps, printed_values_are_one_line, values_are_in_total_order};
+pub use spelling::spell;
+pub use utf::Utf;
+pub use value::Value;
