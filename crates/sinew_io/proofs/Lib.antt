@@ -1,0 +1,4 @@
+pub mod Told
+pub mod UnderWay
+pub mod Keeping
+pub mod Listed

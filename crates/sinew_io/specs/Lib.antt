@@ -1,0 +1,10 @@
+pub mod Count
+pub mod Told
+pub mod Device
+pub mod Whole
+pub mod Piece
+pub mod Supply
+pub mod Kept
+pub mod Schedule
+pub mod Edge
+pub mod Memory
