@@ -1,0 +1,6 @@
+pub mod Cuts
+pub mod Saying
+pub mod Lasts
+pub mod Progress
+pub mod Rules
+pub mod Apart

@@ -1,0 +1,121 @@
+-- The lines that a script is keep the rules.
+use Rattle.std.proofs.Common.{◌≡◌, ℕ, zero, suc, ◌+◌, ◌<◌, ◌≤◌, Bool, true, false, cond, ◌⊎◌, inl, inr, List, [], ◌∷◌, ◌++◌, length, take, map, Option, Some, None, Ok, Err, not, arith, refl, ap, sym, ◌∙◌, subst, ⊎_elim}
+use Rattle.std.specs.Prelude.{◌==◌, nat_lt, ◌||◌, if◌then◌else◌, slice_get}
+use Rattle.std.specs.List.{slice_split, onto_first, list_all}
+use Rattle.std.specs.Str.{is_utf8}
+use Rattle.std.proofs.lemmas.Bool.{ltb-false}
+use Rattle.std.proofs.lemmas.List.{take-append-le, take_all, length_push, length-map}
+use Rattle.std.proofs.lemmas.List.Splits.{length-slice_split}
+use Rattle.script_reader.specs.Pieces.{Said, nothing, statement, bad, said, spoken, pieces_of, without_empty_end, is_line_feed, IsSession, is_blank, is_remark, statement_in, past, is_gap}
+use Rattle.script_reader.specs.Script.{script_of, first_fault, lines_behind, line_behind, unless_fault, most_bytes, IsScript}
+use Rattle.script_reader.specs.declared.line.Line.{Line}
+use Rattle.script_reader.specs.declared.script_fault.ScriptFault.{ScriptFault}
+use Rattle.script_reader.specs.declared.why.Why.TheVariants.{Utf8}
+
+-- ---- a statement is of a session that there is
+spoken_known : (one : Bool) (rest : List ℕ) (session : ℕ) (text : List ℕ) → spoken (if one then Some 1 else None) rest ≡ statement session text → IsSession session
+spoken_known true rest session text h = let e : 1 ≡ session = cc in (omega arith, omega arith)
+spoken_known false rest session text h = absurd (cc)
+
+chosen : (utf8 quiet : Bool) (other : Said) (session : ℕ) (text : List ℕ) → cond (not utf8) (bad Utf8) (cond quiet nothing other) ≡ statement session text → other ≡ statement session text
+chosen true true other session text h = absurd (cc)
+chosen true false other session text h = h
+chosen false quiet other session text h = absurd (cc)
+
+pub said_known : (piece : List ℕ) (session : ℕ) (text : List ℕ) → said piece ≡ statement session text → IsSession session
+said_known piece session text h = spoken_known _ _ session text (chosen (is_utf8 piece) (list_all is_blank piece || is_remark piece) (statement_in (past is_gap piece)) session text h)
+
+-- ---- there are no more pieces than bytes
+one_at_most : (empty : Bool) (part : List ℕ) → length (if empty then [] else part ∷ []) ≤ 1
+one_at_most true part = omega arith
+one_at_most false part = omega arith
+
+length-onto_first : (x : ℕ) (parts : List (List ℕ)) → 0 < length parts → length (without_empty_end (onto_first x parts)) ≤ length (without_empty_end parts) + 1
+length-onto_first x [] some = omega arith
+length-onto_first x (part ∷ []) some = omega (arith, one_at_most (suc (length part) == 0) (x ∷ part))
+length-onto_first x (part ∷ next ∷ more) some = omega arith
+
+length-without_empty_end : (part : List ℕ) (parts : List (List ℕ)) → 0 < length parts → length (without_empty_end (part ∷ parts)) ≤ length (without_empty_end parts) + 1
+length-without_empty_end part [] some = omega arith
+length-without_empty_end part (next ∷ more) some = omega arith
+
+length-pieces_of : (bytes : List ℕ) → length (pieces_of bytes) ≤ length bytes
+length-pieces_of [] = omega arith
+length-pieces_of (x ∷ bytes) =
+    let parts = slice_split is_line_feed bytes in
+    let some : 0 < length parts = omega (arith, length-slice_split is_line_feed bytes) in
+    elim (is_line_feed x) as (λ b. length (without_empty_end (cond b ([] ∷ parts) (onto_first x parts))) ≤ suc (length bytes)) [
+      | true ↦ omega (arith, length-without_empty_end [] parts some, length-pieces_of bytes)
+      | false ↦ omega (arith, length-onto_first x parts some, length-pieces_of bytes)
+    ]
+
+-- ---- one more line
+get_push : {A : Type 0} (xs : List A) (y x : A) (k : ℕ) → slice_get (xs ++ y ∷ []) k ≡ Some x → ((k < length xs) × (slice_get xs k ≡ Some x)) ⊎ ((k ≡ length xs) × (x ≡ y))
+get_push [] y x zero h = inr (refl, cc)
+get_push [] y x (suc k) h = absurd (cc)
+get_push (z ∷ xs) y x zero h = inl (omega arith, h)
+get_push (z ∷ xs) y x (suc k) h = ⊎_elim (λ before. inl (omega arith, before.1)) (λ last. inr (ap suc last.0, last.1)) (get_push xs y x k h)
+
+-- Each line is the one that its statement makes behind those before it, by a session that there is.
+record Keeps (lines : List Line) : Type 0 where
+  behind : (k : ℕ) (line : Line) → slice_get lines k ≡ Some line → line ≡ line_behind (take k lines) line.session line.text
+  known : (k : ℕ) (line : Line) → slice_get lines k ≡ Some line → IsSession line.session
+
+Keeps-nil : Keeps []
+Keeps-nil = record { behind = λ k line h. absurd (cc); known = λ k line h. absurd (cc) }
+
+Keeps_push : (lines : List Line) (session : ℕ) (text : List ℕ) → Keeps lines → IsSession session → Keeps (lines ++ line_behind lines session text ∷ [])
+Keeps_push lines session text keeps known =
+    let new = line_behind lines session text in
+    record {
+      behind = λ k line h. ⊎_elim
+          (λ before. subst (λ ls. line ≡ line_behind ls line.session line.text) (sym (take-append-le k lines (new ∷ []) (omega arith))) (keeps.behind k line before.1))
+          (λ last.
+          let front : take k (lines ++ new ∷ []) ≡ lines = take-append-le k lines (new ∷ []) (omega arith) ∙ take_all k lines (omega arith) in
+          subst (λ ls. line ≡ line_behind ls line.session line.text) (sym front) (subst (λ (l : Line). l ≡ line_behind lines l.session l.text) (sym last.1) refl))
+          (get_push lines new line k h);
+      known = λ k line h. ⊎_elim
+          (λ before. keeps.known k line before.1)
+          (λ last. subst (λ (l : Line). IsSession l.session) (sym last.1) known)
+          (get_push lines new line k h);
+    }
+
+-- The pieces keep the rules, one by one.
+lines_keep : (before : List Line) (pieces : List (List ℕ)) → Keeps before → Keeps (lines_behind before (map said pieces))
+lines_keep before [] keeps = keeps
+lines_keep before (piece ∷ pieces) keeps =
+    elim (said piece) as (λ s. said piece ≡ s → Keeps (lines_behind before (s ∷ map said pieces))) [
+      | nothing ↦ λ e. lines_keep before pieces keeps
+      | statement session text ↦ λ e. lines_keep (before ++ line_behind before session text ∷ []) pieces (Keeps_push before session text keeps (said_known piece session text e))
+      | bad why ↦ λ e. lines_keep before pieces keeps
+    ] refl
+
+length-lines_behind : (before : List Line) (saids : List Said) → length (lines_behind before saids) ≤ length before + length saids
+length-lines_behind before [] = omega arith
+length-lines_behind before (nothing ∷ more) = omega (arith, length-lines_behind before more)
+length-lines_behind before (statement session text ∷ more) =
+    let new = line_behind before session text in
+    omega (arith, length-lines_behind (before ++ new ∷ []) more, length_push before new)
+length-lines_behind before (bad why ∷ more) = omega (arith, length-lines_behind before more)
+
+good_lines : (fault : Option ScriptFault) (made lines : List Line) → unless_fault fault made ≡ Ok lines → made ≡ lines
+good_lines None made lines h = cc
+good_lines (Some fault) made lines h = absurd (cc)
+
+IsScript-from_lines : (bytes : List ℕ) → length bytes ≤ most_bytes → IsScript (lines_behind [] (map said (pieces_of bytes)))
+IsScript-from_lines bytes short =
+    let keeps = lines_keep [] (pieces_of bytes) Keeps-nil in
+    record {
+      behind = keeps.behind;
+      known = keeps.known;
+      few = omega (arith, length-lines_behind [] (map said (pieces_of bytes)), length-map (pieces_of bytes) said, length-pieces_of bytes);
+    }
+
+script_is : (bytes : List ℕ) (lines : List Line) (long : Bool) (fault : ScriptFault) → nat_lt most_bytes (length bytes) ≡ long
+    → (if long then Err fault else unless_fault (first_fault 1 (map said (pieces_of bytes))) (lines_behind [] (map said (pieces_of bytes)))) ≡ Ok lines → IsScript lines
+script_is bytes lines true fault e h = absurd (cc)
+script_is bytes lines false fault e h = subst IsScript (good_lines _ _ lines h) (IsScript-from_lines bytes (ltb-false _ _ e))
+
+-- The script that bytes are keeps the rules.
+pub rules_kept : (bytes : List ℕ) (lines : List Line) → script_of bytes ≡ Ok lines → IsScript lines
+rules_kept bytes lines h = script_is bytes lines (nat_lt most_bytes (length bytes)) _ refl h

@@ -1,0 +1,6 @@
+pub mod Draft
+pub mod Laws
+pub mod Pieces
+pub mod Script
+pub mod Told
+pub mod Why

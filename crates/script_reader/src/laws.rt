@@ -1,0 +1,32 @@
+ghost use Rattle.std.specs.Prelude.{◌≡◌, ℕ, ◌<◌, ◌≤◌, List, Ok, Err, length};
+ghost use Rattle.script_reader.specs.Laws.{AreToldApart, ContainLinesAbove, FollowLinesAbove, HaveSmallNumbers};
+ghost use Rattle.script_reader.specs.Script.{IsScript, most_bytes, script_of};
+ghost use Rattle.script_reader.specs.declared.line.Line.{Line};
+ghost use Rattle.script_reader.specs.declared.why.Why.TheVariants.{Size};
+
+/// The law that more bytes than a script may have are no script.
+pub fn long_bytes_are_no_script()
+    ensures long { (bytes : List ℕ) → most_bytes < length bytes → script_of bytes ≡ Err (record { line = 0; why = Size }) }
+    ensures short { (bytes : List ℕ) (lines : List Line) → script_of bytes ≡ Ok lines → length bytes ≤ most_bytes }
+{}
+
+/// The law that every script keeps the rules.
+pub fn scripts_keep_the_rules()
+    ensures { (bytes : List ℕ) (lines : List Line) → script_of bytes ≡ Ok lines → IsScript lines }
+{}
+
+/// The law that session and place tell the lines of a script apart.
+pub fn lines_are_told_apart()
+    ensures { (lines : List Line) → IsScript lines → AreToldApart lines }
+{}
+
+/// The law that what a line follows stands above it.
+pub fn followed_lines_stand_above()
+    ensures at { (lines : List Line) → IsScript lines → FollowLinesAbove lines }
+    ensures contained { (lines : List Line) → IsScript lines → ContainLinesAbove lines }
+{}
+
+/// The law that session and place are numbers of 32 bits.
+pub fn numbers_are_small()
+    ensures { (lines : List Line) → IsScript lines → HaveSmallNumbers lines }
+{}
