@@ -1,0 +1,5 @@
+pub mod Tree
+pub mod Fields
+pub mod Documents
+pub mod Lines
+pub mod Walk
