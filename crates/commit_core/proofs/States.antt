@@ -1,0 +1,207 @@
+-- The state after commits keeps the rules of a state.
+use Rattle.std.proofs.Common.{◌≡◌, ◌≢◌, ℕ, zero, suc, ◌+◌, ◌<◌, Bool, true, false, List, [], ◌∷◌, ◌++◌, length, fold, Option, Some, None, Result, Ok, Err, refl, sym, ap, ◌∙◌, subst, arith}
+use Rattle.std.specs.Prelude.{All, slice_get}
+use Rattle.std.specs.List.{AllByRecursion as EachIs}
+use Rattle.std.specs.Str.{bytes_eq}
+use Rattle.std.proofs.lemmas.Bool.{false≢true}
+use Rattle.std.proofs.lemmas.List.Elements.{recursion_from_All}
+use Rattle.std.proofs.lemmas.Slice.Eq.{bytes_eq-Decides}
+use Rattle.doc_values.specs.Doc.{Fields, IsDocument}
+use Rattle.doc_flatten.specs.Documents.{documents_of, IsWithinLimits}
+use Rattle.commit_core.specs.Statement as statement
+use Rattle.commit_core.specs.Grammar.{statement_of}
+use Rattle.commit_core.specs.State.{Row, Collection, State, IsCollection, IsState, opening}
+use Rattle.commit_core.specs.Write.{loads, rows_from, new_collection, with_documents, with_load}
+use Rattle.commit_core.specs.Plan.{Plan, refused, read, write, plan_of, plan_in, load_plan}
+use Rattle.commit_core.specs.Replies.{next_state, state_behind, state_after}
+
+-- ---- the rows of a load
+
+-- A row of a load, at a position among them.
+record IsLoaded (next : ℕ) (documents : List Fields) (i : ℕ) (row : Row) : Type 0 where
+  numbered : row.number ≡ next + i
+  within : i < length documents
+  document : IsDocument row.document
+
+loaded : (next : ℕ) (documents : List Fields) → EachIs IsDocument documents → (i : ℕ) (row : Row) → slice_get (rows_from next documents) i ≡ Some row → IsLoaded next documents i row
+loaded next [] all i row e = absurd (cc)
+loaded next (d ∷ ds) all zero row e =
+    let same : record { number = next; document = d } ≡ row = cc in
+    record { numbered = omega (arith, ap (λ (r : Row). r.number) same); within = omega arith; document = subst (λ (r : Row). IsDocument r.document) same all.0 }
+loaded next (d ∷ ds) all (suc i) row e =
+    let rest = loaded (next + 1) ds all.1 i row e in
+    record { numbered = omega (arith, rest.numbered); within = omega (arith, rest.within); document = rest.document }
+
+-- Where a row of rows with more behind them stands.
+data Place (rows more : List Row) (i : ℕ) (row : Row) : Type 0 where
+  before : slice_get rows i ≡ Some row → i < length rows → Place rows more i row
+  behind : (k : ℕ) → i ≡ length rows + k → slice_get more k ≡ Some row → Place rows more i row
+
+place_of : (rows more : List Row) (i : ℕ) (row : Row) → slice_get (rows ++ more) i ≡ Some row → Place rows more i row
+place_of [] more i row e = behind i (omega arith) e
+place_of (r ∷ rows) more zero row e = before e (omega arith)
+place_of (r ∷ rows) more (suc i) row e =
+    elim (place_of rows more i row e) [ before f l ↦ before f (omega arith) | behind k s f ↦ behind k (omega arith) f ]
+
+-- Where a row of a collection with documents put into it comes from.
+data Origin (collection : Collection) (documents : List Fields) (i : ℕ) (row : Row) : Type 0 where
+  kept : slice_get collection.rows i ≡ Some row → i < length collection.rows → Origin collection documents i row
+  added : (k : ℕ) → i ≡ length collection.rows + k → IsLoaded collection.next_row documents k row → Origin collection documents i row
+
+origin : (collection : Collection) (documents : List Fields) → EachIs IsDocument documents → (i : ℕ) (row : Row) →
+    slice_get (with_documents documents collection).rows i ≡ Some row → Origin collection documents i row
+origin collection documents all i row e =
+    elim (place_of collection.rows (rows_from collection.next_row documents) i row e) [
+      | before f l ↦ kept f l
+      | behind k s f ↦ added k s (loaded collection.next_row documents all k row f)
+    ]
+
+collection_more : (collection : Collection) (documents : List Fields) → EachIs IsDocument documents → IsCollection collection → IsCollection (with_documents documents collection)
+collection_more collection documents all h = record {
+  ascending = λ i j a b l e f.
+      elim (origin collection documents all i a e) [
+        | kept e' l' ↦ elim (origin collection documents all j b f) [
+          | kept f' m' ↦ h.ascending i j a b l e' f'
+          | added n s new ↦ omega (arith, h.below i a e', new.numbered)
+        ]
+        | added k s new ↦ elim (origin collection documents all j b f) [
+          | kept f' m' ↦ absurd (omega arith)
+          | added n t newer ↦ omega (arith, new.numbered, newer.numbered)
+        ]
+      ];
+  below = λ i row e.
+      elim (origin collection documents all i row e) [
+        | kept e' l ↦ omega (arith, h.below i row e')
+        | added k s new ↦ omega (arith, new.numbered, new.within)
+      ];
+  documents = λ i row e.
+      elim (origin collection documents all i row e) [
+        | kept e' l ↦ h.documents i row e'
+        | added k s new ↦ new.document
+      ];
+}
+
+collection_new : (name : List ℕ) → IsCollection (new_collection name)
+collection_new name = record {
+  ascending = λ i j a b l e f. absurd (cc);
+  below = λ i row e. absurd (cc);
+  documents = λ i row e. absurd (cc);
+}
+
+-- ---- the collections of a state
+
+-- No collection has the name.
+abbrev Unnamed : List ℕ → State → Type 0
+Unnamed name state = (i : ℕ) (c : Collection) → slice_get state i ≡ Some c → c.name ≢ name
+
+state_none : IsState []
+state_none = record { names = λ i j a b e f same. absurd (cc); each = λ i c e. absurd (cc) }
+
+-- A name that only a first collection may have.
+unnamed_cons : (name : List ℕ) (c : Collection) (more : State) → c.name ≢ name → Unnamed name more → Unnamed name (c ∷ more)
+unnamed_cons name c more ne apart zero d e same = ne (let first : c ≡ d = cc in ap (λ (x : Collection). x.name) first ∙ same)
+unnamed_cons name c more ne apart (suc i) d e same = apart i d e same
+
+names_cons : (c : Collection) (more : State) → Unnamed c.name more → IsState more →
+    (i j : ℕ) (a b : Collection) → slice_get (c ∷ more) i ≡ Some a → slice_get (c ∷ more) j ≡ Some b → a.name ≡ b.name → i ≡ j
+names_cons c more apart rest zero zero a b e f same = refl
+names_cons c more apart rest zero (suc j) a b e f same =
+    let first : c ≡ a = cc in
+    absurd (apart j b f (sym (ap (λ (x : Collection). x.name) first ∙ same)))
+names_cons c more apart rest (suc i) zero a b e f same =
+    let first : c ≡ b = cc in
+    absurd (apart i a e (same ∙ sym (ap (λ (x : Collection). x.name) first)))
+names_cons c more apart rest (suc i) (suc j) a b e f same = omega (arith, rest.names i j a b e f same)
+
+each_cons : (c : Collection) (more : State) → IsCollection c → IsState more → (i : ℕ) (d : Collection) → slice_get (c ∷ more) i ≡ Some d → IsCollection d
+each_cons c more one rest zero d e = let first : c ≡ d = cc in subst (λ (x : Collection). IsCollection x) first one
+each_cons c more one rest (suc i) d e = rest.each i d e
+
+state_cons : (c : Collection) (more : State) → IsCollection c → Unnamed c.name more → IsState more → IsState (c ∷ more)
+state_cons c more one apart rest = record { names = names_cons c more apart rest; each = each_cons c more one rest }
+
+state_head : (c : Collection) (more : State) → IsState (c ∷ more) → IsCollection c
+state_head c more h = h.each 0 c refl
+
+state_tail : (c : Collection) (more : State) → IsState (c ∷ more) → IsState more
+state_tail c more h = record {
+  names = λ i j a b e f same. let both : suc i ≡ suc j = h.names (suc i) (suc j) a b e f same in omega arith;
+  each = λ i d e. h.each (suc i) d e;
+}
+
+state_apart : (c : Collection) (more : State) → IsState (c ∷ more) → Unnamed c.name more
+state_apart c more h = λ i d e same. let both : suc i ≡ 0 = h.names (suc i) 0 d c e refl same in omega arith
+
+-- A load goes into a collection that has its name, or behind one that has not.
+data Reached (name : List ℕ) (documents : List Fields) (c : Collection) (more : State) : Type 0 where
+  here : with_load name documents (c ∷ more) ≡ with_documents documents c ∷ more → Reached name documents c more
+  later : c.name ≢ name → with_load name documents (c ∷ more) ≡ c ∷ with_load name documents more → Reached name documents c more
+
+reached : (name : List ℕ) (documents : List Fields) (c : Collection) (more : State) → Reached name documents c more
+reached name documents c more = by (bytes_eq name c.name) refl where
+  by : (t : Bool) → bytes_eq name c.name ≡ t → Reached name documents c more
+  by true e = here (rw e refl)
+  by false e = later (λ same. false≢true (sym e ∙ (bytes_eq-Decides name c.name).1 (sym same))) (rw e refl)
+
+-- A name that no collection has, and that is not the name of a load, no collection has after it.
+unnamed_load : (name other : List ℕ) (documents : List Fields) (state : State) → name ≢ other → Unnamed other state → Unnamed other (with_load name documents state)
+unnamed_load name other documents [] ne apart = unnamed_cons other (with_documents documents (new_collection name)) [] ne apart
+unnamed_load name other documents (c ∷ more) ne apart =
+    let first : c.name ≢ other = apart 0 c refl in
+    let rest : Unnamed other more = λ i d e. apart (suc i) d e in
+    elim (reached name documents c more) [
+      | here is ↦ subst (λ (s : State). Unnamed other s) (sym is) (unnamed_cons other (with_documents documents c) more first rest)
+      | later differs is ↦ subst (λ (s : State). Unnamed other s) (sym is)
+          (unnamed_cons other c (with_load name documents more) first (unnamed_load name other documents more ne rest))
+    ]
+
+load_kept : (name : List ℕ) (documents : List Fields) (state : State) → EachIs IsDocument documents → IsState state → IsState (with_load name documents state)
+load_kept name documents [] all h =
+    state_cons (with_documents documents (new_collection name)) [] (collection_more (new_collection name) documents all (collection_new name)) (λ i d e same. absurd (cc)) state_none
+load_kept name documents (c ∷ more) all h =
+    elim (reached name documents c more) [
+      | here is ↦ subst (λ (s : State). IsState s) (sym is)
+          (state_cons (with_documents documents c) more (collection_more c documents all (state_head c more h)) (state_apart c more h) (state_tail c more h))
+      | later differs is ↦ subst (λ (s : State). IsState s) (sym is)
+          (state_cons c (with_load name documents more) (state_head c more h)
+          (unnamed_load name c.name documents more (λ same. differs (sym same)) (state_apart c more h)) (load_kept name documents more all (state_tail c more h)))
+    ]
+
+-- ---- commits
+
+-- The law of the crate below.
+abbrev KeepsLimits : Type 0
+KeepsLimits = (text : List ℕ) (docs : List Fields) → documents_of text ≡ Ok docs → All IsWithinLimits docs
+
+documents_kept : (docs : List Fields) → EachIs IsWithinLimits docs → EachIs IsDocument docs
+documents_kept [] h = tt
+documents_kept (d ∷ ds) h = (h.0.0, documents_kept ds h.1)
+
+-- A plan writes documents.
+abbrev WritesDocuments : Plan → Type 0
+WritesDocuments (refused line) = Unit {0}
+WritesDocuments (read query) = Unit {0}
+WritesDocuments (write (loads name docs)) = EachIs IsDocument docs
+
+load_writes : KeepsLimits → (name json : List ℕ) (r : Result (List Fields) ℕ) → documents_of json ≡ r → WritesDocuments (load_plan name r)
+load_writes keeps name json (Ok docs) e = documents_kept docs (recursion_from_All IsWithinLimits docs (keeps json docs e))
+load_writes keeps name json (Err number) e = tt
+
+plan_writes : KeepsLimits → (s : Option statement.Statement) → WritesDocuments (plan_in s)
+plan_writes keeps None = tt
+plan_writes keeps (Some (statement.load collection json)) = load_writes keeps collection json (documents_of json) refl
+plan_writes keeps (Some (statement.select name collection)) = tt
+
+plan_kept : (plan : Plan) (state : State) → WritesDocuments plan → IsState state → IsState (state_behind plan state)
+plan_kept (refused line) state w h = h
+plan_kept (read query) state w h = h
+plan_kept (write (loads name docs)) state w h = load_kept name docs state w h
+
+commits_kept : KeepsLimits → (texts : List (List ℕ)) (state : State) → IsState state → IsState (fold next_state state texts)
+commits_kept keeps [] state h = h
+commits_kept keeps (text ∷ texts) state h =
+    commits_kept keeps texts (next_state state text) (plan_kept (plan_of text) state (plan_writes keeps (statement_of text)) h)
+
+-- The state after commits keeps the rules of a state.
+pub IsState-after : KeepsLimits → (texts : List (List ℕ)) → IsState (state_after texts)
+IsState-after keeps texts = commits_kept keeps texts opening state_none

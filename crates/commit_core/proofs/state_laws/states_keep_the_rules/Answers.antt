@@ -1,0 +1,5 @@
+use Rattle.commit_core.proofs.States.{IsState-after}
+use Rattle.commit_core.proofs.state_laws.states_keep_the_rules.Goals as goal
+
+pub returns : goal.returns
+returns c = IsState-after c.documents_keep_the_limits.ensures

@@ -1,0 +1,14 @@
+pub mod Words
+pub mod Grammar
+pub mod Statement
+pub mod Spelled
+pub mod State
+pub mod Query
+pub mod Write
+pub mod Plan
+pub mod Replies
+pub mod Commits
+pub mod Agreement
+pub mod Planned
+pub mod Collections
+pub mod Lines

@@ -1,0 +1,60 @@
+-- What a store holds: its collections with their documents.
+use Rattle.std.specs.Prelude.{◌≡◌, ℕ, ◌<◌, List, [], Bool, map, Option, Some, None, slice_get}
+use Rattle.std.specs.List.{find}
+use Rattle.std.specs.Str.{bytes_eq}
+use Rattle.doc_values.specs.Doc.{Fields, IsDocument}
+use Rattle.doc_values.specs.declared.kind.Kind.{Kind}
+
+-- A document in its row.
+pub record Row : Type 0 where
+  pub number : ℕ
+  pub document : Fields
+
+-- A collection: its rows with their numbers ascending, the number of the next row, how many versions were written, and the pairs of name and kind ever written.
+pub record Collection : Type 0 where
+  pub name : List ℕ
+  pub rows : List Row
+  pub next_row : ℕ
+  pub versions : ℕ
+  pub pairs : List (List ℕ × Kind)
+
+-- A state: the collections in the order of their first load, each name once.
+abbrev pub State : Type 0
+State = List Collection
+
+-- The state in which nothing was loaded.
+abbrev pub opening : State
+opening = []
+
+-- The collection has this name.
+abbrev pub is_named : List ℕ → Collection → Bool
+is_named name collection = bytes_eq name collection.name
+
+-- The collection with a name, if there is one.
+abbrev pub collection_at : List ℕ → State → Option Collection
+collection_at name state = find (is_named name) state
+
+-- The documents of a collection, if there is one.
+abbrev pub documents_of_rows : Option Collection → List Fields
+documents_of_rows None = []
+documents_of_rows (Some collection) = map (λ row. row.document) collection.rows
+
+-- The documents of a collection, in the order of their rows; none where it is unknown.
+abbrev pub documents_at : List ℕ → State → List Fields
+documents_at name state = documents_of_rows (collection_at name state)
+
+-- The rules that a collection keeps.
+pub record IsCollection (collection : Collection) : Type 0 where
+  -- the numbers of its rows ascend
+  pub ascending : (i j : ℕ) (a b : Row) → i < j → slice_get collection.rows i ≡ Some a → slice_get collection.rows j ≡ Some b → a.number < b.number
+  -- each of them is below the number of the next row
+  pub below : (i : ℕ) (row : Row) → slice_get collection.rows i ≡ Some row → row.number < collection.next_row
+  -- each row has a document
+  pub documents : (i : ℕ) (row : Row) → slice_get collection.rows i ≡ Some row → IsDocument row.document
+
+-- The rules that a state keeps.
+pub record IsState (state : State) : Type 0 where
+  -- no two collections have one name
+  pub names : (i j : ℕ) (a b : Collection) → slice_get state i ≡ Some a → slice_get state j ≡ Some b → a.name ≡ b.name → i ≡ j
+  -- each collection keeps its rules
+  pub each : (i : ℕ) (collection : Collection) → slice_get state i ≡ Some collection → IsCollection collection

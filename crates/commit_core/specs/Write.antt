@@ -1,0 +1,70 @@
+-- What a write does to a state.
+use Rattle.std.specs.Prelude.{ℕ, ◌+◌, List, [], ◌∷◌, ◌++◌, Bool, ◌&&◌, true, false, length, map, fold, if◌then◌else◌}
+use Rattle.std.specs.List.{list_any}
+use Rattle.std.specs.Str.{bytes_eq}
+use Rattle.doc_values.specs.Doc.{Fields}
+use Rattle.doc_values.specs.Value.{kind_of}
+use Rattle.doc_values.specs.declared.kind.Kind.{Kind}
+use Rattle.doc_values.specs.declared.kind.Kind.TheVariants as kind
+use Rattle.commit_core.specs.State.{Row, Collection, State, is_named}
+
+-- A write: a load of documents into a collection.
+pub data Write : Type 0 where
+  loads : List ℕ → List Fields → Write
+
+-- What becomes of a write: it is accepted, with the state after it and a number of rows; or a number leaves its range; or the store is full.
+pub data Effect : Type 0 where
+  accepted : State → ℕ → Effect
+  range : Effect
+  full : Effect
+
+-- The rows of documents, numbered on from the number given.
+abbrev pub rows_from : ℕ → List Fields → List Row
+rows_from number [] = []
+rows_from number (document ∷ documents) = record { number = number; document = document } ∷ rows_from (number + 1) documents
+
+-- Two kinds are the same.
+abbrev pub same_kind : Kind → Kind → Bool
+same_kind kind.Bool kind.Bool = true
+same_kind kind.Int kind.Int = true
+same_kind kind.Text kind.Text = true
+same_kind kind.Array kind.Array = true
+same_kind kind.Object kind.Object = true
+same_kind a b = false
+
+-- Two pairs of name and kind are the same.
+abbrev pub same_pair : List ℕ × Kind → List ℕ × Kind → Bool
+same_pair a b = bytes_eq a.0 b.0 && same_kind a.1 b.1
+
+-- The pairs with one more, if it is not among them.
+abbrev pub with_pair : List (List ℕ × Kind) → List ℕ × Kind → List (List ℕ × Kind)
+with_pair pairs pair = if list_any (same_pair pair) pairs then pairs else pairs ++ pair ∷ []
+
+-- The pairs with those of a document's fields.
+abbrev pub with_fields : List (List ℕ × Kind) → Fields → List (List ℕ × Kind)
+with_fields pairs fields = fold with_pair pairs (map (λ field. (field.0, kind_of field.1)) fields)
+
+-- A collection that nothing was put into.
+abbrev pub new_collection : List ℕ → Collection
+new_collection name = record { name = name; rows = []; next_row = 0; versions = 0; pairs = [] }
+
+-- The collection with documents behind its rows: each is one version written.
+abbrev pub with_documents : List Fields → Collection → Collection
+with_documents documents collection =
+    record {
+      name = collection.name;
+      rows = collection.rows ++ rows_from collection.next_row documents;
+      next_row = collection.next_row + length documents;
+      versions = collection.versions + length documents;
+      pairs = fold with_fields collection.pairs documents;
+    }
+
+-- The state with documents put into a collection, which stands behind the others if it is new.
+abbrev pub with_load : List ℕ → List Fields → State → State
+with_load name documents [] = with_documents documents (new_collection name) ∷ []
+with_load name documents (collection ∷ more) =
+    if is_named name collection then with_documents documents collection ∷ more else collection ∷ with_load name documents more
+
+-- The effect of a write. A load is always accepted, and answers how many documents it has.
+abbrev pub effect_of : Write → State → Effect
+effect_of (loads name documents) state = accepted (with_load name documents state) (length documents)

@@ -1,0 +1,42 @@
+//! The store: the commits made so far, and the reply to each statement over the documents that they left.
+//!
+//! A reply at a number is what its text is told over the state after that many commits, however the store
+//! keeps its documents. This crate knows nothing of scripts, sessions or devices. Read `specs/Replies.antt`
+//! first: the reply to a text over a state, and the state after texts, are all that the layers above see.
+#![tactic(auto)]
+
+mod answer;
+mod collections;
+mod documents;
+mod entry;
+mod grammar_laws;
+mod laws;
+mod limits;
+mod lines;
+mod planned;
+mod prepared;
+mod prepared_sort;
+mod preparing;
+mod reading;
+mod reply;
+mod settings;
+mod spelled;
+mod state_laws;
+mod statement;
+mod store;
+#[cfg(test)]
+mod tests;
+mod word;
+
+pub use entry::Entry;
+pub use grammar_laws::{a_text_spells_one_statement, a_text_spells_what_is_read};
+pub use laws::every_reply_is_lines;
+pub use limits::Limits;
+pub use prepared::Prepared;
+pub use prepared_sort::PreparedSort;
+pub use preparing::prepare;
+pub use reading::Reading;
+pub use reply::Reply;
+pub use settings::Settings;
+pub use state_laws::states_keep_the_rules;
+pub use store::Core;

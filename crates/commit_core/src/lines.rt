@@ -1,0 +1,27 @@
+ghost use Rattle.std.specs.Prelude.{◌≡◌, IfOk};
+ghost use Rattle.commit_core.specs.Plan.{syntax_line, json_line};
+ghost use Rattle.commit_core.specs.Query.{ok_line};
+
+use doc_values::Bytes;
+use std::alloc::{AllocError, Global};
+
+/// The line for a text that spells no statement.
+pub(crate) fn syntax_line(alloc: Global) -> Result<Bytes, AllocError>
+    ensures ok { IfOk result (λ line. line ≡ syntax_line) }
+{
+    Ok(Bytes::from_vec(format!(in alloc; "! syntax\n")?.into_bytes()))
+}
+
+/// The line for a load whose document of this number is excluded; 0 where there are no documents.
+pub(crate) fn json_line(alloc: Global, number: u64) -> Result<Bytes, AllocError>
+    ensures ok { IfOk result (λ line. line ≡ json_line number) }
+{
+    Ok(Bytes::from_vec(format!(in alloc; "! json {number}\n")?.into_bytes()))
+}
+
+/// The line that ends an answer.
+pub(crate) fn ok_line(alloc: Global, rows: usize) -> Result<Bytes, AllocError>
+    ensures ok { IfOk result (λ line. line ≡ ok_line rows) }
+{
+    Ok(Bytes::from_vec(format!(in alloc; "ok {rows}\n")?.into_bytes()))
+}

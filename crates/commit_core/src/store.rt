@@ -1,0 +1,164 @@
+ghost use Rattle.std.specs.Prelude.{◌≡◌, [], List, length, map, IfOk, OnOk, OnErr, IsSome, None};
+
+use crate::collections::Collections;
+use crate::documents::Documents;
+use crate::entry::Entry;
+use crate::lines::ok_line;
+use crate::planned::Planned;
+use crate::prepared::Prepared;
+use crate::prepared_sort::PreparedSort;
+use crate::reading::Reading;
+use crate::reply::Reply;
+use doc_values::{Bytes, Utf, Value};
+use std::alloc::{AllocError, Global};
+use std::marker::Model;
+
+/// A store of documents; seen as the list of its commits.
+#[derive(Drop)]
+pub struct Core {
+    commits: Vec<Entry>,
+    collections: Collections,
+}
+
+impl Model for Core {
+    ghost use Rattle.std.specs.Prelude.{List};
+    ghost use Rattle.commit_core.specs.declared.entry.Entry.{Entry as EntryOf};
+    ghost use Rattle.commit_core.specs.Commits.{state_of};
+    ghost use Rattle.commit_core.specs.Collections.{HoldsState};
+
+    ghost Value = { List EntryOf };
+
+    ghost view = { λ c. c.commits.items };
+
+    ghost invariant = { λ c. HoldsState (state_of c.commits.items) c.collections };
+}
+
+impl Core {
+    ghost use Rattle.commit_core.specs.Agreement.{Agrees, sort_of};
+    ghost use Rattle.commit_core.specs.Commits.{IsWrite, texts_of, told_over, state_of};
+    ghost use Rattle.commit_core.specs.Plan.{plan_of, write};
+    ghost use Rattle.commit_core.specs.Query.{values_found};
+    ghost use Rattle.commit_core.specs.Replies.{reply_at};
+    ghost use Rattle.commit_core.specs.Write.{loads};
+
+    /// A store with no commit.
+    pub fn new(alloc: Global) -> Core
+        ensures exact { result ≡ [] }
+    {
+        Core {
+            commits: Vec::new(alloc),
+            collections: Collections::new(alloc),
+        }
+    }
+
+    /// The number of commits.
+    pub fn now(&self) -> u64
+        ensures exact { result ≡ length self.now }
+    {
+        self.commits.len() as u64
+    }
+
+    /// Makes a write. An accepted one is a commit.
+    pub fn write(&mut self, caller: u32, prepared: &Prepared) -> Result<Reply, AllocError>
+        requires { sort_of (plan_of prepared.now) ≡ PreparedSort.Write }
+        ensures ok { IfOk result (λ reply. IsWrite caller prepared.now self.old self.new reply) }
+        ensures memory { OnErr result (self.new ≡ self.old) }
+    {
+        let Planned::Write {
+            collection,
+            documents,
+        } = prepared.planned()
+        else {
+            unreachable!()
+        };
+        self.load(caller, prepared.text(), collection, documents)
+    }
+
+    /// The reply to a text that is refused whatever the store holds.
+    pub fn refusal(&self, prepared: &Prepared) -> Result<Reply, AllocError>
+        requires { sort_of (plan_of prepared.now) ≡ PreparedSort.Refused }
+        ensures ok { IfOk result (λ reply. reply ≡ reply_at (length self.now) (told_over self.now prepared.now)) }
+    {
+        let Planned::Refused(line) = prepared.planned() else {
+            unreachable!()
+        };
+        Ok(Reply {
+            at: self.now(),
+            accepted: false,
+            body: Bytes::from_vec(Vec::from_slice(self.allocator(), line.items())?),
+        })
+    }
+
+    /// Begins a query at the newest number; nothing is read yet.
+    pub fn begin(&self, prepared: &Prepared) -> Result<Reading, AllocError>
+        requires { sort_of (plan_of prepared.now) ≡ PreparedSort.Read }
+        ensures ok { IfOk result (λ reading. reading ≡ record { text = prepared.now; at = length self.now; values = None }) }
+        ensures agrees { IfOk result (λ reading. Agrees reading (texts_of self.now)) }
+    {
+        let Planned::Read { name, collection } = prepared.planned() else {
+            unreachable!()
+        };
+        Ok(Reading::new(
+            prepared.text().copy()?,
+            name.copy()?,
+            collection.copy()?,
+            self.now(),
+        ))
+    }
+
+    /// Reads all that a query asks for at the newest number.
+    pub fn reread(&self, reading: &mut Reading) -> Result<(), AllocError>
+        ensures ok { OnOk result (Agrees reading.new (texts_of self.now)) }
+        ensures read { OnOk result (IsSome reading.new.values) }
+        ensures exact { OnOk result ((reading.new.at ≡ length self.now) × (reading.new.text ≡ reading.old.text)) }
+        ensures memory { OnErr result (reading.new ≡ reading.old) }
+    {
+        let (name, collection) = reading.query();
+        let values = self.values(name, collection)?;
+        reading.fill(self.now(), values);
+        Ok(())
+    }
+
+    fn load(
+        &mut self,
+        caller: u32,
+        text: &Utf,
+        collection: &Utf,
+        documents: &Documents,
+    ) -> Result<Reply, AllocError>
+        requires { plan_of text.now ≡ write (loads collection.now documents.now) }
+        ensures ok { IfOk result (λ reply. IsWrite caller text.now self.old self.new reply) }
+        ensures memory { OnErr result (self.new ≡ self.old) }
+    {
+        let entry = Entry {
+            caller,
+            text: text.copy()?,
+        };
+        let copied = documents.copy()?;
+        let alloc = self.allocator();
+        let body = ok_line(alloc, documents.len())?;
+        self.commits.reserve(1)?;
+        self.collections.append(alloc, collection.text(), copied)?;
+        // Room was made, so this never fails.
+        self.commits.push(entry)?;
+        Ok(Reply {
+            at: self.commits.len() as u64,
+            accepted: true,
+            body,
+        })
+    }
+
+    // The values that a query finds.
+    fn values(&self, name: &Utf, collection: &Utf) -> Result<Vec<Option<Value>>, AllocError>
+        ensures ok { IfOk result (λ values. values.items ≡ values_found (record { name = name.now; collection = collection.now }) (state_of self.now)) }
+    {
+        match self.collections.get(collection.text()) {
+            Some(documents) => documents.values(name.text()),
+            None => Ok(Vec::new(self.allocator())),
+        }
+    }
+
+    fn allocator(&self) -> Global {
+        *self.commits.allocator()
+    }
+}
