@@ -1,0 +1,10 @@
+pub mod Run
+pub mod Step
+pub mod Printing
+pub mod Outcome
+pub mod Fault
+pub mod Input
+pub mod Written
+pub mod Sure
+pub mod Status
+pub mod Laws

@@ -1,0 +1,176 @@
+use crate::{Status, sinew_in_memory, sinew_serial};
+use commit_core::{Core, Settings};
+use doc_values::{Bytes, Calls};
+use sinew_io::{MemSink, MemSource, SureSink, SureSource};
+use std::process::Abort;
+use std::test::Fail;
+
+const SMALLEST: &[u8] = b"1 LOAD t {\"a\":1}\n1 SELECT a FROM t\n";
+
+const PRINTED: &[u8] = b"#1.1 @1\nok 1\n#1.2 @1\n[1]\nok 1\n= 1 1.1\n. 1\n";
+
+/// Runs a script in memory, seven bytes a read, and compares the status and all that was written.
+fn ends<R: Abort + AllocGlobal>(
+    rt: &R,
+    script: &[u8],
+    status: Status,
+    output: &[u8],
+) -> Result<(), Fail> {
+    let script = Bytes::from_vec(script.to_vec(rt.alloc())?);
+    runs(rt, &mut SureSource::new(script, 7), status, output)
+}
+
+fn runs<R: Abort + AllocGlobal>(
+    rt: &R,
+    source: &mut SureSource,
+    status: Status,
+    output: &[u8],
+) -> Result<(), Fail> {
+    let mut store = Core::new(rt.alloc());
+    let mut sink = SureSink::new(rt.alloc(), 200)?;
+    let ended = sinew_in_memory(rt.alloc(), Settings::usual(), &mut store, source, &mut sink);
+    assert_eq!(rt; sink.bytes(), output);
+    assert_eq!(rt; ended, status);
+    Ok(())
+}
+
+#[test]
+fn scripts_print_their_runs(rt: HostRuntime) -> Result<(), Fail> {
+    let same: [&[u8]; 5] = [
+        SMALLEST,
+        b"1 LOAD t {\"a\":1}\r\n\r\n1 SELECT a FROM t\r\n",
+        b"\n \t\r\n# LOAD t 3\n\t #\n1 LOAD t {\"a\":1}\n\n1 SELECT a FROM t",
+        b" \t1\t LOAD\tt\t {\"a\" : 1} \t\n1  SELECT \t a\tFROM  t \r",
+        b"1 load t{\"a\":1}\n1\rsElEcT a fRoM t\n",
+    ];
+    for script in same {
+        ends(&rt, script, Status::Done, PRINTED)?;
+    }
+    let rows: [(&[u8], &[u8]); 12] = [
+        (b"", b". 0\n"),
+        (b"# nothing\n\n", b". 0\n"),
+        (b"1 SELECT a FROM t", b"#1.1 @0\nok 0\n. 0\n"),
+        (
+            b"1 LOAD t {\"b\":1}\n1 SELECT a FROM t",
+            b"#1.1 @1\nok 1\n#1.2 @1\n[null]\nok 1\n= 1 1.1\n. 1\n",
+        ),
+        (
+            b"1 LOAD t []\n1 SELECT a FROM t",
+            b"#1.1 @1\nok 0\n#1.2 @1\nok 0\n= 1 1.1\n. 1\n",
+        ),
+        (
+            b"1 LOAD t [{\"a\":1},{},{\"a\":-3}]\n1 SELECT a FROM t",
+            b"#1.1 @1\nok 3\n#1.2 @1\n[1]\n[null]\n[-3]\nok 3\n= 1 1.1\n. 1\n",
+        ),
+        (
+            b"1\n1 DROP t\n1 SELECT a, b FROM t",
+            b"#1.1 @0\n! syntax\n#1.2 @0\n! syntax\n#1.3 @0\n! syntax\n. 0\n",
+        ),
+        (
+            b"1 SELECT set FROM t\n1 SELECT a FROM By\n1 LOAD select {}",
+            b"#1.1 @0\n! syntax\n#1.2 @0\n! syntax\n#1.3 @0\n! syntax\n. 0\n",
+        ),
+        (
+            b"1 LOAD t\n1 LOAD t 3\n1 LOAD t {\"a\":",
+            b"#1.1 @0\n! json 0\n#1.2 @0\n! json 0\n#1.3 @0\n! json 0\n. 0\n",
+        ),
+        (
+            b"1 LOAD t {\"a\":1.5}\n1 LOAD t [{\"a\":1},{\"a.b\":1}]",
+            b"#1.1 @0\n! json 1\n#1.2 @0\n! json 2\n. 0\n",
+        ),
+        (
+            b"1 LOAD t {\"a\":\"x\"}\n1 LOAD t [3]\n1 LOAD t {\"a\":[1,{}]}\n1 SELECT a FROM t",
+            b"#1.1 @1\nok 1\n#1.2 @1\n! json 0\n#1.3 @2\nok 1\n#1.4 @2\n[\"x\"]\n[[1,{}]]\nok 2\n= 1 1.1\n= 2 1.3\n. 2\n",
+        ),
+        (
+            b"1 SELECT a FROM t\n1 LOAD t {\"a\":1}\n1 LOAD u {\"a\":2}\n1 SELECT a FROM u",
+            b"#1.1 @0\nok 0\n#1.2 @1\nok 1\n#1.3 @2\nok 1\n#1.4 @2\n[2]\nok 1\n= 1 1.2\n= 2 1.3\n. 2\n",
+        ),
+    ];
+    for (script, output) in rows {
+        ends(&rt, script, Status::Done, output)?;
+    }
+    Ok(())
+}
+
+#[test]
+fn other_bytes_are_refused(rt: HostRuntime) -> Result<(), Fail> {
+    let rows: [(&[u8], &[u8]); 6] = [
+        (b"65 SELECT a FROM t", b"? script 1 session\n"),
+        (b"1# SELECT a FROM t", b"? script 1 session\n"),
+        (
+            b"1 LOAD t {\"a\":1}\n\n# x\nSELECT a FROM t\n\xff",
+            b"? script 4 session\n",
+        ),
+        (b"1 LOAD t {\"a\":1}\n\xff", b"? script 2 utf8\n"),
+        (b"# \xff\n2 LOAD t {}", b"? script 1 utf8\n"),
+        (b"\xef\xbb\xbf1 SELECT a FROM t", b"? script 1 session\n"),
+    ];
+    for (script, output) in rows {
+        ends(&rt, script, Status::Script, output)?;
+    }
+    let long = Bytes::from_vec(vec![in rt.alloc(); b'\n'; 67_108_865]?);
+    let mut source = SureSource::new(long, 65_536);
+    runs(&rt, &mut source, Status::Script, b"? script 0 size\n")
+}
+
+/// Runs the smallest script over devices that fail at one call each: 8 bytes a read, 4 bytes a write.
+fn fails<R: Abort + AllocGlobal>(
+    rt: &R,
+    read: u64,
+    write: u64,
+    status: Status,
+    output: &[u8],
+    commits: u64,
+) -> Result<(), Fail> {
+    let reads = Calls::from_vec(vec![in rt.alloc(); read]?);
+    let writes = Calls::from_vec(vec![in rt.alloc(); write]?);
+    let mut store = Core::new(rt.alloc());
+    let script = Bytes::from_vec(SMALLEST.to_vec(rt.alloc())?);
+    let mut source = MemSource::new(script, 8, reads);
+    let mut sink = MemSink::new(rt.alloc(), 100, 4, writes)?;
+    let ended = sinew_serial(
+        rt.alloc(),
+        Settings::usual(),
+        &mut store,
+        &mut source,
+        &mut sink,
+    );
+    assert_eq!(rt;
+        ended,
+        status,
+        "reading fails at {read}, writing at {write}"
+    );
+    assert_eq!(rt; sink.bytes(), output);
+    assert_eq!(rt; store.now(), commits);
+    Ok(())
+}
+
+#[test]
+fn a_failing_device_ends_a_run(rt: HostRuntime) -> Result<(), Fail> {
+    for read in 1..=6 {
+        fails(&rt, read, 12, Status::Read, b"", 0)?;
+    }
+    for write in 1..=11u8 {
+        let kept = PRINTED
+            .get(..4 * (usize::from(write) - 1))
+            .ok_or("there are 42 bytes")?;
+        fails(&rt, 7, u64::from(write), Status::Write, kept, 1)?;
+    }
+    fails(&rt, 7, 12, Status::Done, PRINTED, 1)
+}
+
+#[test]
+fn each_status_has_its_code(rt: HostRuntime) {
+    let rows = [
+        (Status::Done, 0),
+        (Status::Words, 2),
+        (Status::Script, 3),
+        (Status::Read, 4),
+        (Status::Write, 5),
+        (Status::Memory, 6),
+    ];
+    for (status, code) in rows {
+        assert_eq!(rt; status.code(), code);
+    }
+}
