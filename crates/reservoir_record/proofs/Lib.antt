@@ -1,0 +1,11 @@
+pub mod FourBytes
+pub mod Lists
+pub mod Told
+pub mod OneList
+pub mod Made
+pub mod Checked
+pub mod Found
+pub mod Probing
+pub mod Raised
+pub mod Edited
+pub mod PutIn

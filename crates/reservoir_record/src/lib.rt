@@ -1,0 +1,35 @@
+//! The record in which a row version keeps its values: a list of numbered fields as bytes.
+//!
+//! Each list of fields has one spelling, and each spelling one list: that is the promise of this crate. A record is
+//! read in place. It knows nothing of what a number names or what a value's bytes mean.
+//! Read `specs/Spelling.antt` first.
+#![tactic(auto)]
+
+mod building;
+mod checking;
+mod editing;
+mod field_bytes;
+mod fields;
+mod finding;
+mod laws;
+mod limits;
+mod numbers;
+mod putting;
+mod reading;
+mod steps;
+#[cfg(test)]
+mod tests;
+mod walking;
+mod walks;
+mod word;
+
+pub use building::build;
+pub use checking::check;
+pub use field_bytes::FieldBytes;
+pub use fields::Field;
+pub use laws::{a_list_has_one_spelling, a_spelling_has_one_list};
+pub use putting::put;
+pub use reading::{count, field, find};
+pub use steps::Steps;
+pub use walking::Walk;
+pub use walks::walk;

@@ -1,0 +1,58 @@
+ghost use Rattle.std.specs.Prelude.{ℕ, ◌≡◌, ◌+◌, ◌-◌, ◌*◌, ◌≤◌, ◌<◌, ◌^◌, List, Some, length, slice_get, option_copied};
+ghost use Rattle.reservoir_record.specs.Spelling.{Spells, IsRecord};
+ghost use Rattle.reservoir_record.specs.Words.{IsTable, value_at};
+ghost use Rattle.reservoir_record.specs.Finding.{value_of};
+ghost use Rattle.reservoir_record.specs.declared.fields.Field.{Field};
+
+use crate::finding::place;
+use crate::numbers::Numbers;
+use crate::steps::Steps;
+use crate::word::word;
+use std::sync::ledger::Ledger;
+
+/// How many fields the record has.
+pub fn count(bytes: &[u8]) -> u32
+    requires { IsRecord bytes.now }
+    ensures exact { (fields : List Field) → Spells fields bytes.now → result ≡ length fields }
+    ensures table { IsTable bytes.now result }
+{
+    word(bytes, 0)
+}
+
+/// The field at a place, by the order of the numbers.
+pub fn field(bytes: &[u8], place: u32) -> (u32, &[u8])
+    requires record_bytes { IsRecord bytes.now }
+    requires within { (fields : List Field) → Spells fields bytes.now → place < length fields }
+    ensures exact { (fields : List Field) → Spells fields bytes.now → slice_get fields place ≡ Some (record { id = result.0; bytes = result.1.now }) }
+{
+    let count = count(bytes) as usize;
+    let place = place as usize;
+    (word(bytes, 4 + 4 * place), value(bytes, count, place))
+}
+
+/// The value of the field with a number, found by a binary search whose probes are counted.
+pub fn find<'a, L: Ledger>(bytes: &'a [u8], id: u32, steps: &mut Steps<L>) -> Option<&'a [u8]>
+    requires { IsRecord bytes.now }
+    ensures exact { (fields : List Field) → Spells fields bytes.now → option_copied result ≡ value_of id fields }
+    ensures cost { (fields : List Field) → Spells fields bytes.now → 2 ^ (steps.new - steps.old) ≤ 2 * length fields + 1 }
+    ensures counted { steps.old ≤ steps.new }
+{
+    let count = count(bytes) as usize;
+    match place(&Numbers::new(bytes), count, id, steps) {
+        Ok(place) => Some(value(bytes, count, place)),
+        Err(_) => None,
+    }
+}
+
+/// The value at a place of a table of so many fields.
+pub(crate) fn value(bytes: &[u8], count: usize, place: usize) -> &[u8]
+    requires table { IsTable bytes.now count }
+    requires within { place < count }
+    requires small { count < 2 ^ 32 }
+    ensures exact { result.now ≡ value_at bytes.now count place }
+{
+    let values = 8 + 8 * count;
+    let start = word(bytes, 4 + 4 * count + 4 * place) as usize;
+    let end = word(bytes, 4 + 4 * count + 4 * (place + 1)) as usize;
+    &bytes[values + start..values + end]
+}

@@ -1,0 +1,254 @@
+ghost use Rattle.std.specs.Prelude.{◌≡◌, ◌<◌, ◌≤◌, [], length, IfOk};
+ghost use Rattle.reservoir_record.specs.Spelling.{IsRecord, Spells};
+
+use crate::{Field, FieldBytes, Steps, build, check, count, field, find, put, walk};
+use std::alloc::{AllocError, Global};
+use std::marker::Brand;
+use std::sync::ledger::{Blank, Ledger};
+use std::test::Fail;
+
+fn field_of(alloc: Global, id: u32, bytes: &[u8]) -> Result<Field, AllocError>
+    ensures id { IfOk result (λ f. f.id ≡ id) }
+    ensures bytes { IfOk result (λ f. f.bytes ≡ bytes.now) }
+{
+    let bytes = FieldBytes::from_vec(Vec::from_slice(alloc, bytes)?);
+    Ok(Field { id, bytes })
+}
+
+fn hex(alloc: Global, bytes: &[u8]) -> Result<String, Fail> {
+    let mut text = String::new(alloc);
+    for byte in bytes {
+        text.push_str(format!(in alloc; "{byte:02x}")?.as_str())?;
+    }
+    Ok(text)
+}
+
+fn find_with<'a, L: Ledger>(bytes: &'a [u8], id: u32, blank: Blank) -> Option<&'a [u8]>
+    requires name { blank.name ≡ L.name }
+    requires parts { blank.parts ≡ L.parts }
+    requires some { blank.parts ≡ 1 }
+    requires record_bytes { IsRecord bytes.now }
+{
+    let mut steps = Steps::<L>::new(blank);
+    find(bytes, id, &mut steps)
+}
+
+fn found(bytes: &[u8], id: u32) -> Option<&[u8]>
+    requires { IsRecord bytes.now }
+{
+    find_with::<Brand>(bytes, id, Blank::new(1))
+}
+
+fn put_first(bytes: &mut Vec<u8>, id: u32, value: &[u8]) -> Result<(), AllocError>
+    requires spelled { Spells [] bytes.old.items }
+    requires small { id < 65536 }
+    requires fit { length value.now ≤ 16777216 }
+{
+    put(bytes, id, value)
+}
+
+// The fields of a record, each as `number=value;`.
+fn shown(alloc: Global, bytes: &[u8]) -> Result<String, Fail>
+    requires { IsRecord bytes.now }
+{
+    let mut text = String::new(alloc);
+    for (id, value) in walk(bytes) {
+        let value = hex(alloc, value)?;
+        text.push_str(format!(in alloc; "{id}={value};")?.as_str())?;
+    }
+    Ok(text)
+}
+
+#[test]
+fn builds_the_rows(rt: HostRuntime) -> Result<(), Fail> {
+    let alloc = rt.alloc();
+    let none: Vec<Field> = Vec::new(alloc);
+    let bytes = build(alloc, none.as_slice())?;
+    assert_eq!(rt; hex(alloc, &bytes)?.as_str(), "0000000000000000");
+    assert_eq!(rt; shown(alloc, &bytes)?.as_str(), "");
+
+    let one = [field_of(alloc, 3, &[7, 0, 0, 0, 0, 0, 0, 0])?];
+    let bytes = build(alloc, &one)?;
+    assert_eq!(rt;
+        hex(alloc, &bytes)?.as_str(),
+        "010000000300000000000000080000000700000000000000"
+    );
+    assert_eq!(rt; shown(alloc, &bytes)?.as_str(), "3=0700000000000000;");
+
+    let mut bytes = build(alloc, none.as_slice())?;
+    put_first(&mut bytes, 3, &[7, 0, 0, 0, 0, 0, 0, 0])?;
+    assert_eq!(rt;
+        hex(alloc, &bytes)?.as_str(),
+        "010000000300000000000000080000000700000000000000"
+    );
+
+    let two = [field_of(alloc, 1, &[])?, field_of(alloc, 2, &[1])?];
+    let bytes = build(alloc, &two)?;
+    assert_eq!(rt; bytes.len(), 25);
+    assert_eq!(rt;
+        hex(alloc, &bytes)?.as_str(),
+        "02000000010000000200000000000000000000000100000001"
+    );
+    assert_eq!(rt; shown(alloc, &bytes)?.as_str(), "1=;2=01;");
+    Ok(())
+}
+
+#[test]
+fn checks_and_reads(rt: HostRuntime) -> Result<(), Fail> {
+    let alloc = rt.alloc();
+    let rows: [(&[u8], bool); 10] = [
+        (b"\0\0\0\0\0\0\0\0", true),
+        (b"\0\0\0\0\0\0\0", false),
+        (b"\0\0\0\0\0\0\0\0\0", false),
+        (
+            b"\x01\0\0\0\x03\0\0\0\0\0\0\0\x08\0\0\0\x07\0\0\0\0\0\0\0",
+            true,
+        ),
+        (
+            b"\x01\0\0\0\x03\0\0\0\x01\0\0\0\x08\0\0\0\x07\0\0\0\0\0\0\0",
+            false,
+        ),
+        (
+            b"\x01\0\0\0\x03\0\0\0\0\0\0\0\x08\0\0\0\x07\0\0\0\0\0\0",
+            false,
+        ),
+        (
+            b"\x02\0\0\0\x01\0\0\0\x02\0\0\0\0\0\0\0\0\0\0\0\x01\0\0\0\x01",
+            true,
+        ),
+        (
+            b"\x02\0\0\0\x02\0\0\0\x01\0\0\0\0\0\0\0\0\0\0\0\x01\0\0\0\x01",
+            false,
+        ),
+        (
+            b"\x02\0\0\0\x01\0\0\0\x02\0\0\0\0\0\0\0\0\0\0\0\x01\0\0\0\x01\0",
+            false,
+        ),
+        (
+            b"\x02\0\0\0\x01\0\0\0\x02\0\0\0\0\0\0\0\0\0\0\0\x01\0\0\0",
+            false,
+        ),
+    ];
+    for (bytes, want) in rows {
+        assert_eq!(rt; check(bytes), want, "{}", hex(alloc, bytes)?);
+    }
+    let bytes: &[u8] = b"\x02\0\0\0\x01\0\0\0\x02\0\0\0\0\0\0\0\0\0\0\0\x01\0\0\0\x01";
+    assert!(rt; check(bytes));
+    assert_eq!(rt; count(bytes), 2);
+    assert!(rt; found(bytes, 0).is_none());
+    assert!(rt; found(bytes, 1) == Some(b"".as_slice()));
+    assert!(rt; found(bytes, 2) == Some(b"\x01".as_slice()));
+    assert!(rt; found(bytes, 3).is_none());
+    Ok(())
+}
+
+// 4,096 fields of one byte each, numbered from 0.
+fn many(alloc: Global) -> Result<Vec<u8>, AllocError> {
+    let mut bytes = Vec::new(alloc);
+    bytes.extend_from_slice(&4096u32.to_le_bytes())?;
+    for id in 0..4096u32 {
+        bytes.extend_from_slice(&id.to_le_bytes())?;
+    }
+    for at in 0..4097u32 {
+        bytes.extend_from_slice(&at.to_le_bytes())?;
+    }
+    for id in 0..4096u32 {
+        bytes.push((id % 251) as u8)?;
+    }
+    Ok(bytes)
+}
+
+#[test]
+fn finds_among_many(rt: HostRuntime) -> Result<(), Fail> {
+    let bytes = many(rt.alloc())?;
+    assert_eq!(rt; bytes.len(), 36_872);
+    assert!(rt; check(&bytes));
+    for id in 0..4096u32 {
+        assert!(rt; found(&bytes, id) == Some([(id % 251) as u8].as_slice()));
+    }
+    assert!(rt; found(&bytes, 4096).is_none());
+    assert_eq!(rt; count(&bytes), 4096);
+    Ok(())
+}
+
+// The number in four bytes, by the table as it is written.
+fn number(bytes: &[u8], at: usize) -> Option<u32> {
+    let first = *bytes.get(at)?;
+    let second = *bytes.get(at.checked_add(1)?)?;
+    let third = *bytes.get(at.checked_add(2)?)?;
+    let fourth = *bytes.get(at.checked_add(3)?)?;
+    Some(u32::from_le_bytes([first, second, third, fourth]))
+}
+
+// A plain reading of the table.
+fn is_read(bytes: &[u8]) -> Option<()> {
+    let many = number(bytes, 0)? as usize;
+    let mut before = None;
+    for place in 0..many {
+        let id = number(bytes, 4 + 4 * place)?;
+        if id > 65_535 || before.is_some_and(|other| other >= id) {
+            return None;
+        }
+        before = Some(id);
+    }
+    let mut end = 0;
+    for place in 0..=many {
+        let at = number(bytes, 4 + 4 * many + 4 * place)?;
+        if at < end || (place == 0 && at != 0) {
+            return None;
+        }
+        end = at;
+    }
+    if end <= 16_777_216 && bytes.len() == 8 + 8 * many + end as usize {
+        Some(())
+    } else {
+        None
+    }
+}
+
+// The next of some numbers that follow no pattern.
+fn stirred(state: u64) -> u64 {
+    state
+        .wrapping_mul(6364136223846793005)
+        .wrapping_add(1442695040888963407)
+}
+
+#[test]
+fn agrees_with_a_plain_reading(rt: HostRuntime) -> Result<(), Fail> {
+    let alloc = rt.alloc();
+    let mut state = 7;
+    let mut taken = 0u32;
+    for _ in 0..10_000 {
+        let mut bytes = Vec::new(alloc);
+        state = stirred(state);
+        for _ in 0..state % 20 {
+            state = stirred(state);
+            bytes.push(((state >> 40) % 3 % 2) as u8)?;
+        }
+        assert_eq!(rt;
+            check(&bytes),
+            is_read(&bytes).is_some(),
+            "{}",
+            hex(alloc, &bytes)?
+        );
+        state = stirred(state);
+        let row = b"\x02\0\0\0\x01\0\0\0\x02\0\0\0\0\0\0\0\0\0\0\0\x01\0\0\0\x01";
+        let mut bytes = Vec::from_slice(alloc, row.as_slice())?;
+        let place = ((state >> 33) % 25) as usize;
+        if place < bytes.len() {
+            bytes[place] = ((state >> 50) % 4) as u8;
+        }
+        assert_eq!(rt;
+            check(&bytes),
+            is_read(&bytes).is_some(),
+            "{}",
+            hex(alloc, &bytes)?
+        );
+        if check(&bytes) && taken < 10_000 {
+            taken += 1;
+        }
+    }
+    assert!(rt; taken > 100);
+    assert!(rt; taken < 9_900);
+    Ok(())
+}
