@@ -1,0 +1,6 @@
+pub mod Positions
+pub mod NamesKept
+pub mod Kept
+pub mod OneMore
+pub mod Appended
+pub mod Cut

@@ -1,0 +1,161 @@
+use crate::{AddFault, Catalog, Home, Path, Way};
+use doc_values::{AttrId, Kind};
+use std::process::Abort;
+use std::test::Fail;
+
+// Name, kind, count, home, and up to which version a dirty attribute is clean.
+type Row<'a> = (&'a str, Kind, u32, Home, Option<u32>);
+
+fn stands(rt: &impl Abort, catalog: &Catalog, id: AttrId, want: Row) {
+    assert!(rt; id.0 < catalog.len());
+    let (name, kind, count, home, mark) = want;
+    assert!(rt; catalog.name(id) == name);
+    assert_eq!(rt; catalog.kind(id), kind);
+    assert_eq!(rt; catalog.count(id), count);
+    assert_eq!(rt; catalog.home(id), home);
+    assert_eq!(rt; catalog.dirty(id), mark.is_some());
+    if let Some(clean_to) = mark {
+        assert_eq!(rt; catalog.clean_to(id), clean_to);
+    }
+    assert_eq!(rt; catalog.find(name, kind), Some(id));
+    assert_eq!(rt; catalog.kinds_of(name).of(kind), Some(id));
+}
+
+fn raise(rt: &impl Abort, catalog: &mut Catalog, id: AttrId) {
+    assert!(rt; id.0 < catalog.len());
+    assert!(rt; catalog.count(id) < 2_097_152);
+    catalog.raise(id);
+}
+
+fn lower(rt: &impl Abort, catalog: &mut Catalog, id: AttrId) {
+    assert!(rt; id.0 < catalog.len());
+    assert!(rt; catalog.count(id) > 0);
+    catalog.lower(id);
+}
+
+fn set_home(rt: &impl Abort, catalog: &mut Catalog, id: AttrId, home: Home) {
+    assert!(rt; id.0 < catalog.len());
+    catalog.set_home(id, home);
+}
+
+fn mark_dirty(rt: &impl Abort, catalog: &mut Catalog, id: AttrId, from: u32) {
+    assert!(rt; id.0 < catalog.len());
+    catalog.mark_dirty(id, from);
+}
+
+fn advance(rt: &impl Abort, catalog: &mut Catalog, id: AttrId) {
+    assert!(rt; id.0 < catalog.len());
+    assert!(rt; catalog.dirty(id));
+    assert!(rt; catalog.clean_to(id) < 2_097_152);
+    catalog.advance(id);
+}
+
+fn clear_dirty(rt: &impl Abort, catalog: &mut Catalog, id: AttrId) {
+    assert!(rt; id.0 < catalog.len());
+    catalog.clear_dirty(id);
+}
+
+#[test]
+fn walks_through_every_call(rt: HostRuntime) -> Result<(), Fail> {
+    let mut catalog = Catalog::new(rt.alloc());
+    let ab = catalog.add("a.b", Kind::Int)?;
+    let text = catalog.add("a.b", Kind::Text)?;
+    let other = catalog.add("a", Kind::Int)?;
+    assert_eq!(rt; (ab, text, other), (AttrId(0), AttrId(1), AttrId(2)));
+    assert_eq!(rt; catalog.add("a.b", Kind::Text)?, text);
+    assert_eq!(rt; catalog.len(), 3);
+    assert_eq!(rt; catalog.find("a.b", Kind::Bool), None);
+    assert_eq!(rt; catalog.find("b", Kind::Int), None);
+    let kinds = catalog.kinds_of("a.b");
+    assert_eq!(rt; (kinds.int_id, kinds.text_id), (Some(ab), Some(text)));
+    assert_eq!(rt;
+        (kinds.bool_id, kinds.array_id, kinds.object_id),
+        (None, None, None)
+    );
+    raise(&rt, &mut catalog, ab);
+    raise(&rt, &mut catalog, ab);
+    lower(&rt, &mut catalog, ab);
+    set_home(&rt, &mut catalog, ab, Home::Reservoir);
+    stands(
+        &rt,
+        &catalog,
+        ab,
+        ("a.b", Kind::Int, 1, Home::Reservoir, None),
+    );
+    mark_dirty(&rt, &mut catalog, ab, 7);
+    mark_dirty(&rt, &mut catalog, ab, 9);
+    advance(&rt, &mut catalog, ab);
+    stands(
+        &rt,
+        &catalog,
+        ab,
+        ("a.b", Kind::Int, 1, Home::Reservoir, Some(8)),
+    );
+    set_home(&rt, &mut catalog, ab, Home::Column);
+    stands(
+        &rt,
+        &catalog,
+        ab,
+        ("a.b", Kind::Int, 1, Home::Column, Some(0)),
+    );
+    clear_dirty(&rt, &mut catalog, ab);
+    stands(&rt, &catalog, ab, ("a.b", Kind::Int, 1, Home::Column, None));
+    stands(
+        &rt,
+        &catalog,
+        text,
+        ("a.b", Kind::Text, 0, Home::Reservoir, None),
+    );
+    stands(
+        &rt,
+        &catalog,
+        other,
+        ("a", Kind::Int, 0, Home::Reservoir, None),
+    );
+    Ok(())
+}
+
+#[test]
+fn is_full_at_its_bound(rt: HostRuntime) -> Result<(), Fail> {
+    let mut catalog = Catalog::new(rt.alloc());
+    for number in 0..65_536u32 {
+        let name = format!(in rt.alloc(); "{number}")?;
+        assert_eq!(rt; catalog.add(&name, Kind::Bool)?, AttrId(number));
+    }
+    assert_eq!(rt; catalog.len(), 65_536);
+    assert_eq!(rt; catalog.add("0", Kind::Int), Err(AddFault::Full));
+    assert_eq!(rt; catalog.add("more", Kind::Bool), Err(AddFault::Full));
+    assert_eq!(rt; catalog.add("65535", Kind::Bool), Ok(AttrId(65_535)));
+    Ok(())
+}
+
+#[test]
+fn tells_long_names_apart(rt: HostRuntime) -> Result<(), Fail> {
+    let mut catalog = Catalog::new(rt.alloc());
+    for number in 0..1_000u32 {
+        let name = format!(in rt.alloc(); "{:0>250}", number)?;
+        catalog.add(&name, Kind::Text)?;
+    }
+    for number in 0..1_000u32 {
+        let name = format!(in rt.alloc(); "{:0>250}", number)?;
+        assert_eq!(rt; catalog.find(&name, Kind::Text), Some(AttrId(number)));
+    }
+    Ok(())
+}
+
+#[test]
+fn a_path_holds_five_ways(rt: HostRuntime) {
+    let ways = [
+        Way::Column(AttrId(4)),
+        Way::Extract(AttrId(3)),
+        Way::Either(AttrId(2)),
+        Way::Column(AttrId(1)),
+        Way::Extract(AttrId(0)),
+    ];
+    let mut path = Path::new();
+    for way in ways {
+        assert!(rt; path.ways().len() < 5);
+        path.push(way);
+    }
+    assert_eq!(rt; path.ways(), ways.as_slice());
+}
