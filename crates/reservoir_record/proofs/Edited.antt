@@ -8,7 +8,7 @@ use Rattle.reservoir_record.specs.Editing.{with_field}
 use Rattle.reservoir_record.specs.Finding.{value_of, StandsAt, FitsAt}
 use Rattle.reservoir_record.proofs.Told.{Told, told}
 use Rattle.reservoir_record.proofs.Found.{value_first, value_later, found_here}
-use Rattle.reservoir_record.proofs.Raised.{raised}
+use Rattle.reservoir_record.proofs.Turned.{raised}
 
 -- where the values begin
 abbrev pub starts : ℕ → List Field → List ℕ

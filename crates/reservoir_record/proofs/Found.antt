@@ -11,7 +11,7 @@ use Rattle.reservoir_record.proofs.Lists.{numbers_from, value_split}
 use Rattle.reservoir_record.proofs.Told.{Told, told}
 
 -- how much longer the values are by one field
-value_len : (fs : List Field) (k : ℕ) (d : Field) → k < length fs → length (values (take (suc k) fs)) ≡ length (values (take k fs)) + length (get_or fs k d).bytes
+pub value_len : (fs : List Field) (k : ℕ) (d : Field) → k < length fs → length (values (take (suc k) fs)) ≡ length (values (take k fs)) + length (get_or fs k d).bytes
 value_len [] k d lt = absurd (omega arith)
 value_len (f ∷ fs) zero d lt = omega (arith, length-append f.bytes [])
 value_len (f ∷ fs) (suc k) d lt = omega (arith, length-append f.bytes (values (take (suc k) fs)), length-append f.bytes (values (take k fs)), value_len fs k d (omega arith))
@@ -81,7 +81,8 @@ found_here fields bytes count id k s e at =
     let number : get_or (numbers fields) k 0 ≡ id = sym (t.number k lt) ∙ at.here in
     ap (λ (n : ℕ). Some (value_at bytes n k)) e ∙ ap (λ (v : List ℕ). Some v) (value_here fields bytes s k d lt) ∙ sym (value_found 0 id fields s.lawful.ascend k d lt number)
 
-missing_at : (fields : List Field) (bytes : List ℕ) (count id k : ℕ) → Spells fields bytes → count ≡ length fields → FitsAt bytes count id k → (i : ℕ) → i < length fields → get_or (numbers fields) i 0 ≡ id → ⊥
+-- a number that would stand at a place is no field's
+pub missing_at : (fields : List Field) (bytes : List ℕ) (count id k : ℕ) → Spells fields bytes → count ≡ length fields → FitsAt bytes count id k → (i : ℕ) → i < length fields → get_or (numbers fields) i 0 ≡ id → ⊥
 missing_at fields bytes count id k s e at i lt same =
     let t : Told fields bytes = told fields bytes s in
     let number : number_at bytes i ≡ id = t.number i lt ∙ same in

@@ -6,6 +6,9 @@ pub mod Made
 pub mod Checked
 pub mod Found
 pub mod Probing
-pub mod Raised
+pub mod Turned
 pub mod Edited
 pub mod PutIn
+pub mod Apart
+pub mod Without
+pub mod TakenOut

@@ -2,7 +2,7 @@
 use Rattle.std.proofs.Common.{◌≡◌, ℕ, zero, suc, ◌+◌, ◌<◌, ◌≤◌, List, [], ◌∷◌, ◌++◌, length, get_or, take, drop, refl, sym, ap, ◌∙◌, add-one, arith}
 use Rattle.std.proofs.lemmas.List.{length-append}
 use Rattle.reservoir_record.specs.declared.fields.Field.{Field}
-use Rattle.reservoir_record.specs.Spelling.{numbers, values, offsets, Ascends}
+use Rattle.reservoir_record.specs.Spelling.{numbers, values, offsets, ends, Ascends}
 
 pub length-offsets : (at : ℕ) (fs : List Field) → length (offsets at fs) ≡ length fs + 1
 length-offsets at [] = omega arith
@@ -59,11 +59,6 @@ longer_suc (f ∷ fs) (suc k) = omega (arith, longer_suc fs k, length-append f.b
 
 pub longer : (fs : List Field) (k : ℕ) → length (values (take k fs)) ≤ length (values (take (k + 1) fs))
 longer fs k = rw add-one (longer_suc fs k)
-
--- where the values end
-abbrev pub ends : ℕ → List Field → List ℕ
-ends at [] = []
-ends at (f ∷ fs) = (at + length f.bytes) ∷ ends (at + length f.bytes) fs
 
 pub offsets_are : (at : ℕ) (fs : List Field) → offsets at fs ≡ at ∷ ends at fs
 offsets_are at [] = refl

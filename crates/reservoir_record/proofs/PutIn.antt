@@ -9,7 +9,7 @@ use Rattle.reservoir_record.specs.Words.{word_at}
 use Rattle.reservoir_record.proofs.Told.{Told, told}
 use Rattle.reservoir_record.proofs.FourBytes.{length-number_bytes, length-words, words_at}
 use Rattle.reservoir_record.proofs.Lists.{length-offsets, offsets_small}
-use Rattle.reservoir_record.proofs.Raised.{raised}
+use Rattle.reservoir_record.proofs.Turned.{raised}
 use Rattle.reservoir_record.proofs.Edited.{starts, offsets-append, offsets-raised}
 
 -- what a piece put in behind a front leaves

@@ -21,6 +21,11 @@ abbrev pub offsets : ℕ → List Field → List ℕ
 offsets at [] = at ∷ []
 offsets at (f ∷ fs) = at ∷ offsets (at + length f.bytes) fs
 
+-- Where each value ends, the first begun at a place.
+abbrev pub ends : ℕ → List Field → List ℕ
+ends at [] = []
+ends at (f ∷ fs) = (at + length f.bytes) ∷ ends (at + length f.bytes) fs
+
 -- The numbers ascend strictly from a least one on, and are below 65,536.
 abbrev pub Ascends : ℕ → List Field → Type 0
 Ascends least [] = Unit {0}
@@ -30,6 +35,12 @@ Ascends least (f ∷ fs) = (least ≤ f.id) × (f.id < 65536) × Ascends (f.id +
 pub record AreFields (fields : List Field) : Type 0 where
   pub ascend : Ascends 0 fields
   pub fit : length (values fields) ≤ 16777216
+
+-- The parts of a list of fields: their numbers, where each value ends, and the values one after another.
+pub record ArePartsOf (fields : List Field) (ids value_ends text : List ℕ) : Type 0 where
+  pub numbered : ids ≡ numbers fields
+  pub placed : value_ends ≡ ends 0 fields
+  pub whole : text ≡ values fields
 
 -- How many fields there are, their numbers, where their values begin and end, and the values.
 abbrev pub spelling : List Field → List ℕ

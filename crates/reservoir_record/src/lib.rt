@@ -14,9 +14,11 @@ mod finding;
 mod laws;
 mod limits;
 mod numbers;
+mod parts;
 mod putting;
 mod reading;
 mod steps;
+mod taking;
 #[cfg(test)]
 mod tests;
 mod walking;
@@ -27,9 +29,14 @@ pub use building::build;
 pub use checking::check;
 pub use field_bytes::FieldBytes;
 pub use fields::Field;
-pub use laws::{a_list_has_one_spelling, a_spelling_has_one_list};
+pub use laws::{
+    a_list_has_one_spelling, a_spelling_has_its_fields_in_place, a_spelling_has_one_list,
+    parts_of_one_more,
+};
+pub use parts::build_from_parts;
 pub use putting::put;
 pub use reading::{count, field, find};
 pub use steps::Steps;
+pub use taking::take;
 pub use walking::Walk;
 pub use walks::walk;

@@ -1,19 +1,16 @@
-ghost use Rattle.std.specs.Prelude.{ℕ, ◌≡◌, ◌+◌, ◌*◌, ◌≤◌, ◌<◌, ◌++◌, List, ◌∷◌, None, length, take, drop, OnOk, OnErr, IfOk, IfErr};
+ghost use Rattle.std.specs.Prelude.{ℕ, ◌≡◌, ◌+◌, ◌*◌, ◌≤◌, ◌<◌, ◌++◌, List, ◌∷◌, None, length, take, drop, OnOk, OnErr};
 ghost use Rattle.std.specs.Vec.{vec_len, vec_capacity};
 ghost use Rattle.reservoir_record.specs.Spelling.{Spells, IsRecord, values, spelling};
-ghost use Rattle.reservoir_record.specs.Finding.{value_of, StandsAt, FitsAt};
+ghost use Rattle.reservoir_record.specs.Finding.{value_of, FitsAt};
 ghost use Rattle.reservoir_record.specs.Editing.{with_field};
 ghost use Rattle.reservoir_record.specs.declared.fields.Field.{Field};
 
 use crate::editing::{insert, insert_word, raise, set_word};
-use crate::finding::place;
-use crate::numbers::Numbers;
-use crate::reading::count;
-use crate::steps::Steps;
+use crate::reading::{count, place_with};
 use crate::word::word;
 use std::alloc::AllocError;
 use std::marker::Brand;
-use std::sync::ledger::{Blank, Ledger};
+use std::sync::ledger::Blank;
 
 /// Puts in a field whose number the record does not have, with one growth at most.
 pub fn put(bytes: &mut Vec<u8>, id: u32, value: &[u8]) -> Result<(), AllocError>
@@ -39,19 +36,6 @@ fn place_for(bytes: &[u8], id: u32) -> usize
     match place_with::<Brand>(bytes, id, Blank::new(1)) {
         Ok(place) | Err(place) => place,
     }
-}
-
-fn place_with<L: Ledger>(bytes: &[u8], id: u32, blank: Blank) -> Result<usize, usize>
-    requires name { blank.name ≡ L.name }
-    requires parts { blank.parts ≡ L.parts }
-    requires some { blank.parts ≡ 1 }
-    requires record_bytes { IsRecord bytes.now }
-    ensures found { (fields : List Field) → Spells fields bytes.now → IfOk result (λ k. StandsAt bytes.now (length fields) id k) }
-    ensures missing { (fields : List Field) → Spells fields bytes.now → IfErr result (λ k. FitsAt bytes.now (length fields) id k) }
-{
-    let count = count(bytes) as usize;
-    let mut steps = Steps::<L>::new(blank);
-    place(&Numbers::new(bytes), count, id, &mut steps)
 }
 
 // Puts the field in at a place. There is room for it.

@@ -1,14 +1,14 @@
-ghost use Rattle.std.specs.Prelude.{ℕ, ◌≡◌, ◌+◌, ◌-◌, ◌*◌, ◌≤◌, ◌<◌, ◌^◌, List, Some, length, slice_get, option_copied};
+ghost use Rattle.std.specs.Prelude.{ℕ, ◌≡◌, ◌+◌, ◌-◌, ◌*◌, ◌≤◌, ◌<◌, ◌^◌, List, Some, length, slice_get, option_copied, IfOk, IfErr};
 ghost use Rattle.reservoir_record.specs.Spelling.{Spells, IsRecord};
 ghost use Rattle.reservoir_record.specs.Words.{IsTable, value_at};
-ghost use Rattle.reservoir_record.specs.Finding.{value_of};
+ghost use Rattle.reservoir_record.specs.Finding.{value_of, StandsAt, FitsAt};
 ghost use Rattle.reservoir_record.specs.declared.fields.Field.{Field};
 
 use crate::finding::place;
 use crate::numbers::Numbers;
 use crate::steps::Steps;
 use crate::word::word;
-use std::sync::ledger::Ledger;
+use std::sync::ledger::{Blank, Ledger};
 
 /// How many fields the record has.
 pub fn count(bytes: &[u8]) -> u32
@@ -42,6 +42,20 @@ pub fn find<'a, L: Ledger>(bytes: &'a [u8], id: u32, steps: &mut Steps<L>) -> Op
         Ok(place) => Some(value(bytes, count, place)),
         Err(_) => None,
     }
+}
+
+/// Where the number stands in the record, or where it would.
+pub(crate) fn place_with<L: Ledger>(bytes: &[u8], id: u32, blank: Blank) -> Result<usize, usize>
+    requires name { blank.name ≡ L.name }
+    requires parts { blank.parts ≡ L.parts }
+    requires some { blank.parts ≡ 1 }
+    requires record_bytes { IsRecord bytes.now }
+    ensures found { (fields : List Field) → Spells fields bytes.now → IfOk result (λ k. StandsAt bytes.now (length fields) id k) }
+    ensures missing { (fields : List Field) → Spells fields bytes.now → IfErr result (λ k. FitsAt bytes.now (length fields) id k) }
+{
+    let count = count(bytes) as usize;
+    let mut steps = Steps::<L>::new(blank);
+    place(&Numbers::new(bytes), count, id, &mut steps)
 }
 
 /// The value at a place of a table of so many fields.

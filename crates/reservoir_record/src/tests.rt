@@ -1,7 +1,9 @@
 ghost use Rattle.std.specs.Prelude.{◌≡◌, ◌<◌, ◌≤◌, [], length, IfOk};
 ghost use Rattle.reservoir_record.specs.Spelling.{IsRecord, Spells};
 
-use crate::{Field, FieldBytes, Steps, build, check, count, field, find, put, walk};
+use crate::{
+    Field, FieldBytes, Steps, build, build_from_parts, check, count, field, find, put, take, walk,
+};
 use std::alloc::{AllocError, Global};
 use std::marker::Brand;
 use std::sync::ledger::{Blank, Ledger};
@@ -47,6 +49,22 @@ fn put_first(bytes: &mut Vec<u8>, id: u32, value: &[u8]) -> Result<(), AllocErro
     put(bytes, id, value)
 }
 
+// The record of field 1 without bytes and field 2 with the byte 01.
+fn two_from_parts(alloc: Global) -> Result<Vec<u8>, AllocError> {
+    build_from_parts(alloc, &[1, 2], &[0, 1], &[1])
+}
+
+// The value that is taken out, as text.
+fn taken(alloc: Global, bytes: &mut Vec<u8>, id: u32) -> Result<String, Fail> {
+    if !check(bytes) {
+        return Ok(String::from_str(alloc, "no record")?);
+    }
+    match take(bytes, id)? {
+        Some(value) => hex(alloc, &value),
+        None => Ok(String::from_str(alloc, "none")?),
+    }
+}
+
 // The fields of a record, each as `number=value;`.
 fn shown(alloc: Global, bytes: &[u8]) -> Result<String, Fail>
     requires { IsRecord bytes.now }
@@ -81,6 +99,8 @@ fn builds_the_rows(rt: HostRuntime) -> Result<(), Fail> {
         hex(alloc, &bytes)?.as_str(),
         "010000000300000000000000080000000700000000000000"
     );
+    assert_eq!(rt; taken(alloc, &mut bytes, 3)?.as_str(), "0700000000000000");
+    assert_eq!(rt; hex(alloc, &bytes)?.as_str(), "0000000000000000");
 
     let two = [field_of(alloc, 1, &[])?, field_of(alloc, 2, &[1])?];
     let bytes = build(alloc, &two)?;
@@ -94,9 +114,30 @@ fn builds_the_rows(rt: HostRuntime) -> Result<(), Fail> {
 }
 
 #[test]
+fn takes_fields_out(rt: HostRuntime) -> Result<(), Fail> {
+    let alloc = rt.alloc();
+    let mut bytes = two_from_parts(alloc)?;
+    let two = "02000000010000000200000000000000000000000100000001";
+    let one = "0100000002000000000000000100000001";
+    let rows: [(u32, &str, &str); 6] = [
+        (0, "none", two),
+        (3, "none", two),
+        (1, "", one),
+        (1, "none", one),
+        (2, "01", "0000000000000000"),
+        (2, "none", "0000000000000000"),
+    ];
+    for (id, want, left) in rows {
+        assert_eq!(rt; taken(alloc, &mut bytes, id)?.as_str(), want);
+        assert_eq!(rt; hex(alloc, &bytes)?.as_str(), left);
+    }
+    Ok(())
+}
+
+#[test]
 fn checks_and_reads(rt: HostRuntime) -> Result<(), Fail> {
     let alloc = rt.alloc();
-    let rows: [(&[u8], bool); 10] = [
+    let rows: [(&[u8], bool); 11] = [
         (b"\0\0\0\0\0\0\0\0", true),
         (b"\0\0\0\0\0\0\0", false),
         (b"\0\0\0\0\0\0\0\0\0", false),
@@ -110,6 +151,10 @@ fn checks_and_reads(rt: HostRuntime) -> Result<(), Fail> {
         ),
         (
             b"\x01\0\0\0\x03\0\0\0\0\0\0\0\x08\0\0\0\x07\0\0\0\0\0\0",
+            false,
+        ),
+        (
+            b"\x01\0\0\0\x03\0\0\0\0\0\0\0\x08\0\0\0\x07\0\0\0\0\0\0\0\0",
             false,
         ),
         (

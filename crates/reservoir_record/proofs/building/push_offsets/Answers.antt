@@ -2,8 +2,8 @@ use Rattle.std.proofs.Common.{◌≡◌, ◌++◌, ◌∙◌, List, [], drop, �
 use Rattle.std.specs.List.{flat_map}
 use Rattle.std.proofs.lemmas.List.{append-nil, drop_all}
 use Rattle.reservoir_record.specs.declared.fields.Field.{Field}
-use Rattle.reservoir_record.specs.Spelling.{number_bytes}
-use Rattle.reservoir_record.proofs.Lists.{ends, offsets_are}
+use Rattle.reservoir_record.specs.Spelling.{number_bytes, ends}
+use Rattle.reservoir_record.proofs.Lists.{offsets_are}
 use Rattle.reservoir_record.proofs.building.push_offsets.Goals as goal
 
 pub returns : goal.returns

@@ -1,8 +1,7 @@
 use Rattle.std.proofs.Common.{◌≡◌, ◌++◌, ◌+◌, ℕ, List, length, drop}
 use Rattle.std.specs.List.{flat_map}
 use Rattle.reservoir_record.specs.declared.fields.Field.{Field}
-use Rattle.reservoir_record.specs.Spelling.{values, number_bytes}
-use Rattle.reservoir_record.proofs.Lists.{ends}
+use Rattle.reservoir_record.specs.Spelling.{values, number_bytes, ends}
 use Rattle.reservoir_record.proofs.building.push_offsets.Given as goal
 
 -- what is written with what is left gives all, and so do the values

@@ -1,5 +1,6 @@
-use Rattle.reservoir_record.proofs.Raised.{Raised}
+use Rattle.std.proofs.Common.{◌+◌}
+use Rattle.reservoir_record.proofs.Turned.{Turned}
 use Rattle.reservoir_record.proofs.editing.raise.Given as goal
 
 abbrev pub invariant-loop-place : goal.invariant-loop-place
-invariant-loop-place l = Raised l.at l.by l.count l.fn.bytes l.bytes l.place
+invariant-loop-place l = Turned (λ n. n + l.by) l.at l.count l.fn.bytes l.bytes l.place
