@@ -1,6 +1,5 @@
 -- A catalog without its last attribute is a catalog.
-use Rattle.std.proofs.Common.{◌≡◌, ◌≢◌, ℕ, zero, suc, ◌+◌, ◌-◌, ◌<◌, ◌≤◌, ◌⊎◌, inl, inr, Bool, true, false, cond, List, [], ◌∷◌, ◌++◌, length, map, set, Option, Some, None, option_map, slice_get, position, refl, sym, ap, subst, ◌∙◌, arith, length-append, length-set}
-use Rattle.std.specs.Str.{bytes_eq}
+use Rattle.std.proofs.Common.{◌≡◌, ◌≢◌, ℕ, ◌<◌, ◌≤◌, ◌⊎◌, inl, inr, Bool, true, false, cond, List, [], ◌∷◌, ◌++◌, length, set, Option, Some, None, option_map, slice_get, refl, sym, ap, subst, ◌∙◌, arith, length-append, length-set}
 use Rattle.std.proofs.lemmas.List.{map-append}
 use Rattle.std.proofs.lemmas.Option.{slice_get_within, slice_get-map}
 use Rattle.std.proofs.lemmas.Slice.Eq.{bytes_eq-Decides}
@@ -9,8 +8,8 @@ use Rattle.doc_values.specs.declared.kind.Kind as kind
 use Rattle.attr_catalog.specs.declared.kinds.Kinds.{Kinds}
 use Rattle.attr_catalog.specs.declared.stored.Stored.{Stored}
 use Rattle.attr_catalog.specs.Attribute.{Attribute}
-use Rattle.attr_catalog.specs.Catalog.{Attributes, is_of, number, id_of, kinds_of, IsOnce, most_attributes}
-use Rattle.attr_catalog.specs.Inside.{Named, AreApart, name_at, shown, all_shown, id_at, with_id, no_kinds, Forgets, BelongTogether}
+use Rattle.attr_catalog.specs.Catalog.{Attributes, is_of, number, id_of, kinds_of, IsOnce, most_attributes, id_at}
+use Rattle.attr_catalog.specs.Inside.{Named, name_at, shown, all_shown, with_id, no_kinds, Forgets, BelongTogether}
 use Rattle.attr_catalog.proofs.Positions.{first, position-first, first-some, first-push, or_else, get-front, get-last, get-set, get-within}
 use Rattle.attr_catalog.proofs.Kept.{name-at}
 use Rattle.attr_catalog.proofs.OneMore.{kinds-push, kinds-other}

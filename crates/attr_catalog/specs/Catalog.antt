@@ -42,6 +42,14 @@ kinds_of name attributes = record {
   object_id = id_of name kind.TheVariants.Object attributes;
 }
 
+-- The number that stands there for a kind.
+abbrev pub id_at : kind.Kind → Kinds → Option AttrId
+id_at kind.TheVariants.Bool kinds = kinds.bool_id
+id_at kind.TheVariants.Int kinds = kinds.int_id
+id_at kind.TheVariants.Text kinds = kinds.text_id
+id_at kind.TheVariants.Array kinds = kinds.array_id
+id_at kind.TheVariants.Object kinds = kinds.object_id
+
 -- Each pair of name and kind stands once: what is found for an attribute's pair is its own place.
 abbrev pub IsOnce : Attributes → Type 0
 IsOnce attributes = (place : ℕ) (a : Attribute) → slice_get attributes place ≡ Some a → id_of a.name a.kind attributes ≡ Some (number place)

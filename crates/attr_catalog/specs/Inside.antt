@@ -41,14 +41,6 @@ ShowsAs change before after = ((names : Named) → shown names after ≡ change 
 abbrev pub all_shown : Named → List Stored → Attributes
 all_shown names stored = map (shown names) stored
 
--- The number that stands for a kind.
-abbrev pub id_at : kind.Kind → Kinds → Option AttrId
-id_at kind.TheVariants.Bool kinds = kinds.bool_id
-id_at kind.TheVariants.Int kinds = kinds.int_id
-id_at kind.TheVariants.Text kinds = kinds.text_id
-id_at kind.TheVariants.Array kinds = kinds.array_id
-id_at kind.TheVariants.Object kinds = kinds.object_id
-
 -- The numbers with another one for a kind.
 abbrev pub with_id : kind.Kind → Option AttrId → Kinds → Kinds
 with_id kind.TheVariants.Bool id kinds = record kinds { bool_id = id }

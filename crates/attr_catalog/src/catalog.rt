@@ -1,4 +1,4 @@
-ghost use Rattle.std.specs.Prelude.{take, drop, ◌≡◌, ◌<◌, ◌≤◌, [], length, option_map, slice_get, is_some, Some, IfSome, IsSome, ◌∷◌, ◌++◌, ◌↔◌, None, OnOk, OnErr, IfOk, IsOk};
+ghost use Rattle.std.specs.Prelude.{take, drop, ◌≡◌, ◌<◌, ◌≤◌, [], length, option_map, unwrap_or, slice_get, is_some, Some, IfSome, IsSome, ◌∷◌, ◌++◌, ◌↔◌, None, OnOk, OnErr, IfOk, IsOk};
 ghost use Rattle.std.specs.List.{All};
 ghost use Rattle.attr_catalog.specs.Inside.{HasFront};
 ghost use Rattle.attr_catalog.specs.Attribute.{fresh, raised, lowered, housed, dirtied, advanced, cleared};
@@ -76,8 +76,9 @@ impl Catalog {
     pub fn add(&mut self, name: &str, kind: Kind) -> Result<AttrId, AddFault>
         ensures ok { OnOk result (self.new ≡ with_pair name.now kind self.old) }
         ensures number { IfOk result (λ id. id_of name.now kind self.new ≡ Some id) }
+        ensures next { IfOk result (λ id. id_of name.now kind self.old ≡ None → id.0 ≡ length self.old) }
         ensures full { (result ≡ Err AddFault.Full) ↔ ((id_of name.now kind self.old ≡ None) × (length self.old ≡ most_attributes)) }
-        ensures memory { OnErr result (self.new ≡ self.old) }
+        ensures kept { OnErr result (self.new ≡ self.old) }
         ensures known { IsSome (id_of name.now kind self.old) → IsOk result }
     {
         if let Some(id) = self.find(name, kind) {
@@ -160,10 +161,10 @@ impl Catalog {
         self.stored[id.0 as usize].mark.is_some()
     }
 
-    /// Below which version a dirty attribute is known to be clean. It says nothing of a clean one.
+    /// Below which version a dirty attribute is known to be clean. Of a clean one it says nothing, and is 0.
     pub fn clean_to(&self, id: AttrId) -> u32
         requires { id.0 < length self.now }
-        ensures exact { IfSome (slice_get self.now id.0) (λ a. IfSome a.mark (λ clean_to. result ≡ clean_to)) }
+        ensures exact { option_map (λ a. unwrap_or a.mark 0) (slice_get self.now id.0) ≡ Some result }
     {
         self.stored[id.0 as usize].mark.unwrap_or(0)
     }

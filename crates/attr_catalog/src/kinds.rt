@@ -13,7 +13,8 @@ pub struct Kinds {
 }
 
 impl Kinds {
-    ghost use Rattle.attr_catalog.specs.Inside.{no_kinds, id_at, with_id};
+    ghost use Rattle.attr_catalog.specs.Catalog.{id_at};
+    ghost use Rattle.attr_catalog.specs.Inside.{no_kinds, with_id};
 
     /// No numbers.
     pub(crate) fn none() -> Kinds

@@ -1,3 +1,6 @@
+ghost use Rattle.std.specs.Prelude.{◌≡◌, drop};
+ghost use Rattle.std.specs.List.{All};
+
 use crate::{AddFault, Catalog, Home, Path, Way};
 use doc_values::{AttrId, Kind};
 use std::process::Abort;
@@ -53,6 +56,22 @@ fn advance(rt: &impl Abort, catalog: &mut Catalog, id: AttrId) {
 fn clear_dirty(rt: &impl Abort, catalog: &mut Catalog, id: AttrId) {
     assert!(rt; id.0 < catalog.len());
     catalog.clear_dirty(id);
+}
+
+// Asserts that no document holds an attribute from a number on.
+fn assert_unheld(rt: &impl Abort, catalog: &Catalog, len: u32)
+    ensures unheld { All (λ a. a.count ≡ 0) (drop len catalog.now) }
+{
+    for place in len..catalog.len() {
+        let count = catalog.count(AttrId(place));
+        assert!(rt; count == 0);
+    }
+}
+
+fn cut(rt: &impl Abort, catalog: &mut Catalog, len: u32) {
+    assert!(rt; len <= catalog.len());
+    assert_unheld(rt, catalog, len);
+    catalog.cut(len);
 }
 
 #[test]
@@ -112,6 +131,46 @@ fn walks_through_every_call(rt: HostRuntime) -> Result<(), Fail> {
         other,
         ("a", Kind::Int, 0, Home::Reservoir, None),
     );
+    cut(&rt, &mut catalog, 2);
+    assert_eq!(rt; catalog.len(), 2);
+    assert_eq!(rt; catalog.find("a", Kind::Int), None);
+    Ok(())
+}
+
+#[test]
+fn what_is_cut_away_can_be_added_again(rt: HostRuntime) -> Result<(), Fail> {
+    let pairs = [
+        ("a", Kind::Int),
+        ("a", Kind::Text),
+        ("b", Kind::Int),
+        ("a", Kind::Bool),
+        ("c.d", Kind::Object),
+    ];
+    let mut catalog = Catalog::new(rt.alloc());
+    for (name, kind) in pairs {
+        catalog.add(name, kind)?;
+    }
+    raise(&rt, &mut catalog, AttrId(1));
+    raise(&rt, &mut catalog, AttrId(3));
+    lower(&rt, &mut catalog, AttrId(3));
+    cut(&rt, &mut catalog, 2);
+    assert_eq!(rt; catalog.len(), 2);
+    let found = [Some(AttrId(0)), Some(AttrId(1)), None, None, None];
+    for ((name, kind), want) in pairs.into_iter().zip(found) {
+        assert_eq!(rt; catalog.find(name, kind), want);
+    }
+    assert_eq!(rt; catalog.kinds_of("a").bool_id, None);
+    let again = [
+        ("c.d", Kind::Object, AttrId(2)),
+        ("a", Kind::Bool, AttrId(3)),
+        ("a", Kind::Text, AttrId(1)),
+        ("b", Kind::Int, AttrId(4)),
+    ];
+    for (name, kind, want) in again {
+        assert_eq!(rt; catalog.add(name, kind)?, want);
+        assert_eq!(rt; catalog.find(name, kind), Some(want));
+    }
+    assert_eq!(rt; catalog.kinds_of("a").bool_id, Some(AttrId(3)));
     Ok(())
 }
 
