@@ -6,3 +6,8 @@ pub mod Loaded
 pub mod OneLine
 pub mod EachDocument
 pub mod Limits
+pub mod Cost
+pub mod LexedCost
+pub mod ReadCost
+pub mod CompactCost
+pub mod Light

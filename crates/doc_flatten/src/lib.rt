@@ -13,6 +13,6 @@ mod loading;
 mod path;
 mod plain;
 
-pub use laws::{document_arrays_are_one_line, documents_keep_the_limits};
+pub use laws::{document_arrays_are_one_line, documents_are_light, documents_keep_the_limits};
 pub use load_fault::LoadFault;
 pub use loading::read_docs;
