@@ -6,7 +6,8 @@ use Rattle.std.proofs.lemmas.List.{take-take}
 use Rattle.std.proofs.lemmas.List.Sums.{count_by_more_yes, count_by-le-length, sum_by-take-le}
 use Rattle.std.proofs.lemmas.Option.{slice_get_within, slice_get_read, get_or_from_slice_get}
 use Rattle.script_reader.specs.Laws.{AreToldApart, ContainLinesAbove, FollowLinesAbove, HaveSmallNumbers}
-use Rattle.script_reader.specs.Script.{IsScript, is_of, last_from, last_of}
+use Rattle.script_reader.specs.Script.{IsScript, is_of, last_of}
+use Rattle.script_reader.proofs.Lasts.{last_of_below}
 use Rattle.script_reader.specs.declared.line.Line.{Line}
 
 count_grows : (p : Line → Bool) (lines : List Line) (i j : ℕ) (l : Line) → slice_get lines i ≡ Some l → p l ≡ true → i < j → count_by p (take i lines) < count_by p (take j lines)
@@ -15,17 +16,6 @@ count_grows p lines i j l h passes before =
     let front : take (i + 1) (take j lines) ≡ take (i + 1) lines = take-take (i + 1) j lines (omega arith) in
     let more : count_by p (take (i + 1) (take j lines)) ≤ count_by p (take j lines) = sum_by-take-le _ (take j lines) (i + 1) in
     omega (arith, here, more, ap (count_by p) front)
-
-found_below : (s at : ℕ) (lines : List Line) (found : Option ℕ) (j : ℕ) → last_from s at lines found ≡ Some j → (found ≡ Some j) ⊎ (j < at + length lines)
-found_below s at [] found j h = inl h
-found_below s at (x ∷ lines) found j h =
-    elim (is_of s x) as (λ b. last_from s (at + 1) lines (if b then Some at else found) ≡ Some j → (found ≡ Some j) ⊎ (j < at + suc (length lines))) [
-      | true ↦ λ e. ⊎_elim (λ (here : Some at ≡ Some j). let same : at ≡ j = cc in inr (omega arith)) (λ below. inr (omega arith)) (found_below s (at + 1) lines (Some at) j e)
-      | false ↦ λ e. ⊎_elim (λ before. inl before) (λ below. inr (omega arith)) (found_below s (at + 1) lines found j e)
-    ] h
-
-last_of_below : (s : ℕ) (lines : List Line) (j : ℕ) → last_of s lines ≡ Some j → j < length lines
-last_of_below s lines j h = ⊎_elim (λ none. absurd (cc)) (λ below. omega arith) (found_below s 0 lines None j h)
 
 only_one : (o : Option ℕ) (i j : ℕ) → slice_get (option_to_list o) i ≡ Some j → o ≡ Some j
 only_one None i j h = absurd (cc)

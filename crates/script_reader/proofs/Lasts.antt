@@ -1,38 +1,75 @@
 -- The last line of a session, before and behind one more line.
-use Rattle.std.proofs.Common.{◌≡◌, ℕ, suc, ◌+◌, ◌-◌, ◌<◌, ◌≤◌, true, false, cond, List, [], ◌∷◌, ◌++◌, length, length-set, Option, Some, None, get_or, set, arith, refl, sym, ◌∙◌, subst, ⊎_elim, get_or-set_same, get_or-set_other}
-use Rattle.std.specs.Prelude.{count_by, option_map, option_to_list, IfSome, unwrap_or, if◌then◌else◌}
-use Rattle.std.proofs.lemmas.Bool.{cases_eq, eq-eqb, ne_eqb}
+use Rattle.std.proofs.Common.{◌≡◌, ℕ, suc, ◌+◌, ◌-◌, ◌<◌, ◌≤◌, Bool, true, false, not, cond, List, [], ◌∷◌, ◌++◌, length, length-set, Option, Some, None, get_or, set, arith, refl, sym, ap, ◌∙◌, subst, ⊎_elim, get_or-set_same, get_or-set_other}
+use Rattle.std.specs.Prelude.{count_by, nat_lt, position, reverse, option_map, option_to_list, IfSome, unwrap_or, if◌then◌else◌}
+use Rattle.std.proofs.lemmas.Bool.{cases_eq, eq-eqb, ne_eqb, lt-ltb, ltb-true, ltb-false, false≢true}
+use Rattle.std.specs.List.{position_or_len}
+use Rattle.std.proofs.lemmas.List.{length_push, length-reverse, reverse-append}
+use Rattle.std.proofs.lemmas.List.Sorted.{IsPermutation-reverse, sum_by-IsPermutation}
 use Rattle.std.proofs.lemmas.List.Sums.{sum_by-cons, sum_by_push, count_by-le-length}
-use Rattle.script_reader.specs.Script.{is_of, last_of, last_from}
+use Rattle.script_reader.specs.Script.{is_of, last_of}
 use Rattle.script_reader.specs.Draft.{last_line, TellsLast}
 use Rattle.script_reader.specs.declared.line.Line.{Line}
 use Rattle.script_reader.specs.declared.last.Last.{Last}
 
-last_from_push : (s at : ℕ) (lines : List Line) (line : Line) (found : Option ℕ) → last_from s at (lines ++ line ∷ []) found ≡ (if is_of s line then Some (at + length lines) else last_from s at lines found)
-last_from_push s at [] line found = let e : at + 0 ≡ at = omega arith in rw e refl
-last_from_push s at (x ∷ lines) line found =
-    let e : at + 1 + length lines ≡ at + suc (length lines) = omega arith in
-    rw e at (last_from_push s (at + 1) lines line (if is_of s x then Some at else found))
+lt_suc : (n m : ℕ) → nat_lt (1 + n) (suc m) ≡ nat_lt n m
+lt_suc n m = by (nat_lt (1 + n) (suc m)) (nat_lt n m) refl refl where
+  by : (b c : Bool) → nat_lt (1 + n) (suc m) ≡ b → nat_lt n m ≡ c → nat_lt (1 + n) (suc m) ≡ nat_lt n m
+  by true true e f = e ∙ sym f
+  by true false e f = absurd (omega (arith, ltb-true _ _ e, ltb-false _ _ f))
+  by false true e f = absurd (omega (arith, ltb-false _ _ e, ltb-true _ _ f))
+  by false false e f = e ∙ sym f
+
+-- What is counted from the end of some lines, at one more line.
+counted_back : (n m len : ℕ) (own : Bool) → m ≡ len → option_map (λ back. suc len - suc back) (cond (nat_lt (cond (not own) (1 + n) 0) (suc m)) (Some (cond (not own) (1 + n) 0)) None)
+    ≡ (if own then Some len else option_map (λ back. len - suc back) (cond (nat_lt n m) (Some n) None))
+counted_back n m len true same = rw (lt-ltb 0 (suc m) (omega arith)) (ap Some (omega arith))
+counted_back n m len false same = rw (lt_suc n m) (by (nat_lt n m)) where
+  by : (b : Bool) → option_map (λ back. suc len - suc back) (cond b (Some (1 + n)) None) ≡ option_map (λ back. len - suc back) (cond b (Some n) None)
+  by true = ap Some (omega arith)
+  by false = refl
 
 pub last_of_push : (s : ℕ) (lines : List Line) (line : Line) → last_of s (lines ++ line ∷ []) ≡ (if is_of s line then Some (length lines) else last_of s lines)
-last_of_push s lines line = let e : 0 + length lines ≡ length lines = omega arith in rw e at (last_from_push s 0 lines line None)
+last_of_push s lines line =
+    let more : length (lines ++ line ∷ []) ≡ suc (length lines) = omega (arith, length_push lines line) in
+    rw (reverse-append, more)
+    (counted_back (position_or_len (is_of s) (reverse lines)) (length (reverse lines)) (length lines) (is_of s line) (length-reverse lines))
 
-last_from_found : (s at : ℕ) (lines : List Line) (n : ℕ) → last_from s at lines (Some n) ≡ None → ⊥
-last_from_found s at [] n h = cc
-last_from_found s at (x ∷ lines) n h =
-    elim (is_of s x) as (λ b. last_from s (at + 1) lines (if b then Some at else Some n) ≡ None → ⊥) [
-      | true ↦ last_from_found s (at + 1) lines at
-      | false ↦ last_from_found s (at + 1) lines n
-    ] h
+later : (n m : ℕ) → cond (nat_lt (1 + n) (suc m)) (Some (1 + n)) None ≡ None → cond (nat_lt n m) (Some n) None ≡ None
+later n m = rw (lt_suc n m) (by (nat_lt n m)) where
+  by : (b : Bool) → cond b (Some (1 + n)) None ≡ None → cond b (Some n) None ≡ None
+  by true found = absurd (cc)
+  by false none = refl
 
-count_unless_found : (s at : ℕ) (lines : List Line) → last_from s at lines None ≡ None → count_by (is_of s) lines ≡ 0
-count_unless_found s at [] h = refl
-count_unless_found s at (x ∷ lines) h =
-    rw (sum_by-cons (λ y. cond (is_of s y) 1 0) x lines)
-    (elim (is_of s x) as (λ b. last_from s (at + 1) lines (if b then Some at else None) ≡ None → cond b 1 0 + count_by (is_of s) lines ≡ 0) [
-      | true ↦ λ found. absurd (last_from_found s (at + 1) lines at found)
-      | false ↦ λ none. omega (arith, count_unless_found s (at + 1) lines none)
+some_first : (b : Bool) → b ≡ true → cond {A = Option ℕ} b (Some 0) None ≡ None → ⊥
+some_first true e found = cc
+some_first false e found = false≢true e
+
+-- Lines of which none is found hold none.
+none_counted : {X : Type 0} (p : X → Bool) (xs : List X) → position p xs ≡ None → count_by p xs ≡ 0
+none_counted p [] h = refl
+none_counted {X} p (x ∷ xs) h =
+    rw (sum_by-cons (λ y. cond (p y) 1 0) x xs)
+    (elim (p x) as (λ b. cond (nat_lt (cond (not b) (1 + position_or_len p xs) 0) (suc (length xs))) (Some (cond (not b) (1 + position_or_len p xs) 0)) None ≡ None → cond b 1 0 + count_by p xs ≡ 0) [
+      | true ↦ λ found. let inside : nat_lt 0 (suc (length xs)) ≡ true = lt-ltb 0 (suc (length xs)) (omega arith) in absurd (some_first (nat_lt 0 (suc (length xs))) inside found)
+      | false ↦ λ none. omega (arith, none_counted p xs (later (position_or_len p xs) (length xs) none))
     ] h)
+
+unmapped : {A B : Type 0} (f : A → B) (o : Option A) → option_map f o ≡ None → o ≡ None
+unmapped f None h = refl
+unmapped f (Some x) h = absurd (cc)
+
+count_unless_found : (s : ℕ) (lines : List Line) → last_of s lines ≡ None → count_by (is_of s) lines ≡ 0
+count_unless_found s lines h =
+    let same : count_by (is_of s) (reverse lines) ≡ count_by (is_of s) lines = sum_by-IsPermutation _ lines (reverse lines) (IsPermutation-reverse lines) in
+    sym same ∙ none_counted (is_of s) (reverse lines) (unmapped _ _ h)
+
+pub last_of_below : (s : ℕ) (lines : List Line) (j : ℕ) → last_of s lines ≡ Some j → j < length lines
+last_of_below s lines j h =
+    below (nat_lt (position_or_len (is_of s) (reverse lines)) (length (reverse lines))) (position_or_len (is_of s) (reverse lines)) refl h
+  where
+    below : (b : Bool) (n : ℕ) → nat_lt n (length (reverse lines)) ≡ b → option_map (λ back. length lines - suc back) (cond b (Some n) None) ≡ Some j → j < length lines
+    below true n inside found = let at : length lines - suc n ≡ j = cc in omega (arith, at, ltb-true n (length (reverse lines)) inside, length-reverse lines)
+    below false n inside found = absurd (cc)
 
 -- What the last line of a session says to its next line.
 module _ (session : ℕ) (lines : List Line) (last : Option Last) (tells : last ≡ last_line session lines) where
@@ -46,7 +83,7 @@ module _ (session : ℕ) (lines : List Line) (last : Option Last) (tells : last 
   pub place_behind : unwrap_or (option_map (λ (line : Last). line.place) last) 0 + 1 ≡ count_by (is_of session) lines + 1
   place_behind =
       rw tells (elim (last_of session lines) as (λ o. last_of session lines ≡ o → unwrap_or (option_map (λ (line : Last). line.place) (option_map (λ at. let line : Last = record { position = at; place = count_by (is_of session) lines } in line) o)) 0 + 1 ≡ count_by (is_of session) lines + 1) [
-        | None ↦ λ e. omega (arith, count_unless_found session 0 lines e)
+        | None ↦ λ e. omega (arith, count_unless_found session lines e)
         | Some at ↦ λ e. refl
       ] refl)
 

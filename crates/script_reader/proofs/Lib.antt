@@ -4,3 +4,4 @@ pub mod Lasts
 pub mod Progress
 pub mod Rules
 pub mod Apart
+pub mod ScriptOf

@@ -1,6 +1,7 @@
 pub mod Draft
 pub mod Laws
 pub mod Pieces
+pub mod Relation
 pub mod Script
 pub mod Told
 pub mod Why

@@ -1,5 +1,5 @@
 -- The script that bytes are, or the fault for which they are none.
-use Rattle.std.specs.Prelude.{◌≡◌, ℕ, ◌+◌, ◌≤◌, List, [], ◌∷◌, ◌++◌, Bool, ◌==◌, length, take, map, count_by, Option, Some, None, Result, Ok, Err, nat_lt, if◌then◌else◌, slice_get, option_to_list}
+use Rattle.std.specs.Prelude.{◌≡◌, ℕ, suc, ◌+◌, ◌-◌, ◌≤◌, List, [], ◌∷◌, ◌++◌, Bool, ◌==◌, length, take, map, reverse, position, count_by, Option, Some, None, Result, Ok, Err, nat_lt, if◌then◌else◌, slice_get, option_map, option_to_list}
 use Rattle.script_reader.specs.Pieces.{Said, nothing, statement, bad, said, pieces_of, IsSession}
 use Rattle.script_reader.specs.declared.line.Line.{Line}
 use Rattle.script_reader.specs.declared.script_fault.ScriptFault.{ScriptFault}
@@ -20,14 +20,9 @@ first_fault number (bad why ∷ more) = Some (record { line = number; why = why 
 abbrev pub is_of : ℕ → Line → Bool
 is_of session line = line.session == session
 
--- The position of the last line of a session, where the lines are at the positions from the one given on.
-abbrev pub last_from : ℕ → ℕ → List Line → Option ℕ → Option ℕ
-last_from session at [] found = found
-last_from session at (line ∷ lines) found = last_from session (at + 1) lines (if is_of session line then Some at else found)
-
--- The position of the last line of a session.
+-- The position of the last line of a session: the first of its lines, counted from the end.
 abbrev pub last_of : ℕ → List Line → Option ℕ
-last_of session lines = last_from session 0 lines None
+last_of session lines = option_map (λ behind. length lines - suc behind) (position (is_of session) (reverse lines))
 
 -- The line that a statement makes behind the lines before it: its place counts the lines of its session, and it follows the last of these.
 abbrev pub line_behind : List Line → ℕ → List ℕ → Line

@@ -18,8 +18,8 @@ mod statement;
 mod why;
 
 pub use laws::{
-    followed_lines_stand_above, lines_are_told_apart, long_bytes_are_no_script, numbers_are_small,
-    scripts_keep_the_rules,
+    bytes_are_one_script, followed_lines_stand_above, lines_are_told_apart,
+    long_bytes_are_no_script, numbers_are_small, scripts_keep_the_rules,
 };
 pub use line::Line;
 pub use positions::Positions;
