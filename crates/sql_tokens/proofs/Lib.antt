@@ -1,0 +1,11 @@
+pub mod Runs
+pub mod Texts
+pub mod Names
+pub mod Fronts
+pub mod Formed
+pub mod Scans
+pub mod Steps
+pub mod Replaced
+pub mod Cuts
+pub mod Numbers
+pub mod Longest
