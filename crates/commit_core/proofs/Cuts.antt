@@ -8,7 +8,7 @@ use Rattle.std.proofs.lemmas.List.{drop_at, get_or-reverse, length-drop, length-
 use Rattle.std.proofs.lemmas.List.Sums.{prefix_len_passes, prefix_len-le-length, suffix_len-le-length}
 use Rattle.std.proofs.lemmas.Bool.Decides.{nat_tests}
 use Rattle.commit_core.specs.Words.{is_space, is_word_byte}
-use Rattle.commit_core.specs.Grammar.{skip_space, trim}
+use Rattle.commit_core.specs.Parsed.{skip_space, trim}
 
 module _ (test : ℕ → Bool) (ascii : (c : ℕ) → test c ≡ true → c < 128) where
   behind_first : (n : ℕ) (bytes : List ℕ) → IsUtf8 bytes → n ≡ prefix_len test bytes → IsCharBoundary bytes n

@@ -6,3 +6,15 @@ pub mod Loads
 pub mod Agreements
 pub mod WholeLines
 pub mod States
+mod StoredValues
+mod StoredFields
+mod Pairs
+mod Entries
+mod RecordFields
+mod Appended
+mod Counts
+mod TableLoads
+pub mod PairsOnce
+pub mod Places
+pub mod Lights
+pub mod Quotes

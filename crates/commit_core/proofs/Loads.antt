@@ -2,18 +2,11 @@
 use Rattle.std.proofs.Common.{◌≡◌, ◌≢◌, ◌⊎◌, ℕ, ◌+◌, List, [], ◌∷◌, ◌++◌, Bool, true, false, map, refl, ap, inl, inr}
 use Rattle.std.specs.Str.{bytes_eq}
 use Rattle.std.proofs.lemmas.Bool.{false≢true}
-use Rattle.std.proofs.lemmas.Grind.{fold-append}
 use Rattle.std.proofs.lemmas.List.{map-append}
 use Rattle.std.proofs.lemmas.Slice.Eq.{bytes_eq-Decides}
 use Rattle.doc_values.specs.Doc.{Fields}
 use Rattle.commit_core.specs.State.{Row, Collection, State, documents_at}
-use Rattle.commit_core.specs.Write.{rows_from, with_load, loads}
-use Rattle.commit_core.specs.Plan.{plan_of, write}
-use Rattle.commit_core.specs.Replies.{state_behind}
-use Rattle.commit_core.specs.Commits.{state_of}
-use Rattle.commit_core.specs.Collections.{documents_under, HasMore, HoldsState}
-use Rattle.commit_core.specs.declared.collections.Collections.{Collections}
-use Rattle.commit_core.specs.declared.entry.Entry.{Entry}
+use Rattle.commit_core.specs.Write.{rows_from, with_load}
 
 documents-rows_from : (n : ℕ) (documents : List Fields) → map (λ (row : Row). row.document) (rows_from n documents) ≡ documents
 documents-rows_from n [] = refl
@@ -62,16 +55,3 @@ documents_at-load_other name other documents [] ne =
     by_test false e = simp e
 documents_at-load_other name other documents (c ∷ more) ne =
     load_other_by name other documents c more ne (documents_at-load_other name other documents more ne) (bytes_eq name c.name) (bytes_eq other c.name) refl refl
-
--- the state after one commit more, which is a load
-pub state_of-push : (entries : List Entry) (entry : Entry) (name : List ℕ) (documents : List Fields) → plan_of entry.text ≡ write (loads name documents) → state_of (entries ++ entry ∷ []) ≡ with_load name documents (state_of entries)
-state_of-push entries entry name documents planned =
-    simp (map-append, fold-append) (ap (λ plan. state_behind plan (state_of entries)) planned)
-
--- a map that holds a state holds that after a load, once it has the documents more
-pub HoldsState-load : (state : State) (name : List ℕ) (documents : List Fields) (old new : Collections) → HoldsState state old → HasMore name documents old new → HoldsState (with_load name documents state) new
-HoldsState-load state name documents old new holds more other = by_name (same_or_not other name)
-  where
-    by_name : (other ≡ name) ⊎ (other ≢ name) → documents_under other new ≡ documents_at other (with_load name documents state)
-    by_name (inl same) = rw same (let a = more.added in let b = holds name in let e = documents_at-load name documents state in cc)
-    by_name (inr ne) = let a = more.others other ne in let b = holds other in let e = documents_at-load_other name other documents state ne in cc

@@ -8,7 +8,8 @@ use Rattle.std.proofs.lemmas.Bool.Decides.{nat_tests}
 use Rattle.std.proofs.lemmas.List.{append-nil, reverse-append, reverse-reverse}
 use Rattle.std.proofs.lemmas.List.Folds.{list_all-append}
 use Rattle.commit_core.specs.Words.{is_space, is_word_start, is_word_byte, is_word, is_keyword, is_name, is_collection}
-use Rattle.commit_core.specs.Grammar.{IsSpace, IsGap, BeginsOutside, IsTrimmed, skip_space, trim, word_in, behind_word}
+use Rattle.commit_core.specs.Grammar.{IsSpace, IsGap, BeginsOutside, IsTrimmed}
+use Rattle.commit_core.specs.Parsed.{skip_space, trim, word_in, behind_word}
 use Rattle.commit_core.proofs.Runs.{take-run, drop-run, outside-append, passes-reverse}
 
 -- Bytes of a word, one at least.

@@ -1,19 +1,24 @@
 -- The state after commits keeps the rules of a state.
-use Rattle.std.proofs.Common.{◌≡◌, ◌≢◌, ℕ, zero, suc, ◌+◌, ◌<◌, Bool, true, false, List, [], ◌∷◌, ◌++◌, length, fold, Option, Some, None, Result, Ok, Err, refl, sym, ap, ◌∙◌, subst, arith}
+use Rattle.std.proofs.Common.{◌≡◌, ◌≢◌, ℕ, zero, suc, ◌+◌, ◌<◌, ◌≤◌, nat_lt, cond, Bool, true, false, List, [], ◌∷◌, ◌++◌, length, fold, Option, Some, None, Result, Ok, Err, refl, sym, ap, ◌∙◌, subst, arith}
 use Rattle.std.specs.Prelude.{All, slice_get}
 use Rattle.std.specs.List.{AllByRecursion as EachIs}
 use Rattle.std.specs.Str.{bytes_eq}
-use Rattle.std.proofs.lemmas.Bool.{false≢true}
+use Rattle.std.proofs.lemmas.Bool.{cond-true, cond-false, false≢true, or_parts}
+use Rattle.std.proofs.lemmas.Bool.Decides.{nat_tests}
 use Rattle.std.proofs.lemmas.List.Elements.{recursion_from_All}
 use Rattle.std.proofs.lemmas.Slice.Eq.{bytes_eq-Decides}
 use Rattle.doc_values.specs.Doc.{Fields, IsDocument}
 use Rattle.doc_flatten.specs.Documents.{documents_of, IsWithinLimits}
 use Rattle.commit_core.specs.Statement as statement
-use Rattle.commit_core.specs.Grammar.{statement_of}
-use Rattle.commit_core.specs.State.{Row, Collection, State, IsCollection, IsState, opening}
-use Rattle.commit_core.specs.Write.{loads, rows_from, new_collection, with_documents, with_load}
+use Rattle.commit_core.specs.Parsed.{statement_of}
+use Rattle.commit_core.specs.State.{Row, Collection, State, IsCollection, IsState, opening, is_named, collection_at, most_collections, most_pairs, most_versions}
+use Rattle.commit_core.specs.Write.{accepted, full, loads, rows_from, new_collection, with_documents, with_load, is_beyond, is_there_beyond, is_full}
 use Rattle.commit_core.specs.Plan.{Plan, refused, read, write, plan_of, plan_in, load_plan}
-use Rattle.commit_core.specs.Replies.{next_state, state_behind, state_after}
+use Rattle.commit_core.specs.Replies.{next_state, state_left, state_behind, state_after}
+use Rattle.commit_core.proofs.PairsOnce.{AreOnce-documents}
+
+not_above : (most n : ℕ) → nat_lt most n ≡ false → n ≤ most
+not_above most n e = grind (arith, nat_tests)
 
 -- ---- the rows of a load
 
@@ -56,8 +61,15 @@ origin collection documents all i row e =
       | behind k s f ↦ added k s (loaded collection.next_row documents all k row f)
     ]
 
-collection_more : (collection : Collection) (documents : List Fields) → EachIs IsDocument documents → IsCollection collection → IsCollection (with_documents documents collection)
-collection_more collection documents all h = record {
+-- A collection that has no more than it may have.
+within : (collection : Collection) → is_beyond collection ≡ false → (length collection.pairs ≤ most_pairs) × (collection.versions ≤ most_versions)
+within collection e =
+    let both = or_parts (nat_lt most_pairs (length collection.pairs)) (nat_lt most_versions collection.versions) e in
+    (not_above most_pairs (length collection.pairs) both.0, not_above most_versions collection.versions both.1)
+
+collection_more : (collection : Collection) (documents : List Fields) → EachIs IsDocument documents → IsCollection collection → is_beyond (with_documents documents collection) ≡ false
+    → IsCollection (with_documents documents collection)
+collection_more collection documents all h fits = record {
   ascending = λ i j a b l e f.
       elim (origin collection documents all i a e) [
         | kept e' l' ↦ elim (origin collection documents all j b f) [
@@ -79,6 +91,9 @@ collection_more collection documents all h = record {
         | kept e' l ↦ h.documents i row e'
         | added k s new ↦ new.document
       ];
+  once = AreOnce-documents documents collection.pairs h.once;
+  few_pairs = (within (with_documents documents collection) fits).0;
+  few_versions = (within (with_documents documents collection) fits).1;
 }
 
 collection_new : (name : List ℕ) → IsCollection (new_collection name)
@@ -86,6 +101,9 @@ collection_new name = record {
   ascending = λ i j a b l e f. absurd (cc);
   below = λ i row e. absurd (cc);
   documents = λ i row e. absurd (cc);
+  once = λ i j a b e f same. absurd (cc);
+  few_pairs = omega arith;
+  few_versions = omega arith;
 }
 
 -- ---- the collections of a state
@@ -95,7 +113,7 @@ abbrev Unnamed : List ℕ → State → Type 0
 Unnamed name state = (i : ℕ) (c : Collection) → slice_get state i ≡ Some c → c.name ≢ name
 
 state_none : IsState []
-state_none = record { names = λ i j a b e f same. absurd (cc); each = λ i c e. absurd (cc) }
+state_none = record { few = omega arith; names = λ i j a b e f same. absurd (cc); each = λ i c e. absurd (cc) }
 
 -- A name that only a first collection may have.
 unnamed_cons : (name : List ℕ) (c : Collection) (more : State) → c.name ≢ name → Unnamed name more → Unnamed name (c ∷ more)
@@ -117,14 +135,15 @@ each_cons : (c : Collection) (more : State) → IsCollection c → IsState more 
 each_cons c more one rest zero d e = let first : c ≡ d = cc in subst (λ (x : Collection). IsCollection x) first one
 each_cons c more one rest (suc i) d e = rest.each i d e
 
-state_cons : (c : Collection) (more : State) → IsCollection c → Unnamed c.name more → IsState more → IsState (c ∷ more)
-state_cons c more one apart rest = record { names = names_cons c more apart rest; each = each_cons c more one rest }
+state_cons : (c : Collection) (more : State) → length (c ∷ more) ≤ most_collections → IsCollection c → Unnamed c.name more → IsState more → IsState (c ∷ more)
+state_cons c more few one apart rest = record { few = few; names = names_cons c more apart rest; each = each_cons c more one rest }
 
 state_head : (c : Collection) (more : State) → IsState (c ∷ more) → IsCollection c
 state_head c more h = h.each 0 c refl
 
 state_tail : (c : Collection) (more : State) → IsState (c ∷ more) → IsState more
 state_tail c more h = record {
+  few = let all : length (c ∷ more) ≤ most_collections = h.few in omega arith;
   names = λ i j a b e f same. let both : suc i ≡ suc j = h.names (suc i) (suc j) a b e f same in omega arith;
   each = λ i d e. h.each (suc i) d e;
 }
@@ -132,16 +151,21 @@ state_tail c more h = record {
 state_apart : (c : Collection) (more : State) → IsState (c ∷ more) → Unnamed c.name more
 state_apart c more h = λ i d e same. let both : suc i ≡ 0 = h.names (suc i) 0 d c e refl same in omega arith
 
--- A load goes into a collection that has its name, or behind one that has not.
+-- A load goes into a collection that has its name, or behind one that has not; there the collection of that name is found.
 data Reached (name : List ℕ) (documents : List Fields) (c : Collection) (more : State) : Type 0 where
-  here : with_load name documents (c ∷ more) ≡ with_documents documents c ∷ more → Reached name documents c more
-  later : c.name ≢ name → with_load name documents (c ∷ more) ≡ c ∷ with_load name documents more → Reached name documents c more
+  here : with_load name documents (c ∷ more) ≡ with_documents documents c ∷ more → collection_at name (with_load name documents (c ∷ more)) ≡ Some (with_documents documents c) → Reached name documents c more
+  later : c.name ≢ name → with_load name documents (c ∷ more) ≡ c ∷ with_load name documents more
+      → collection_at name (with_load name documents (c ∷ more)) ≡ collection_at name (with_load name documents more) → Reached name documents c more
 
 reached : (name : List ℕ) (documents : List Fields) (c : Collection) (more : State) → Reached name documents c more
 reached name documents c more = by (bytes_eq name c.name) refl where
   by : (t : Bool) → bytes_eq name c.name ≡ t → Reached name documents c more
-  by true e = here (rw e refl)
-  by false e = later (λ same. false≢true (sym e ∙ (bytes_eq-Decides name c.name).1 (sym same))) (rw e refl)
+  by true e =
+      let is : with_load name documents (c ∷ more) ≡ with_documents documents c ∷ more = rw e refl in
+      here is (ap (collection_at name) is ∙ cond-true (is_named name (with_documents documents c)) _ _ e)
+  by false e =
+      let is : with_load name documents (c ∷ more) ≡ c ∷ with_load name documents more = rw e refl in
+      later (λ same. false≢true (sym e ∙ (bytes_eq-Decides name c.name).1 (sym same))) is (ap (collection_at name) is ∙ cond-false (is_named name c) _ _ e)
 
 -- A name that no collection has, and that is not the name of a load, no collection has after it.
 unnamed_load : (name other : List ℕ) (documents : List Fields) (state : State) → name ≢ other → Unnamed other state → Unnamed other (with_load name documents state)
@@ -150,21 +174,32 @@ unnamed_load name other documents (c ∷ more) ne apart =
     let first : c.name ≢ other = apart 0 c refl in
     let rest : Unnamed other more = λ i d e. apart (suc i) d e in
     elim (reached name documents c more) [
-      | here is ↦ subst (λ (s : State). Unnamed other s) (sym is) (unnamed_cons other (with_documents documents c) more first rest)
-      | later differs is ↦ subst (λ (s : State). Unnamed other s) (sym is)
+      | here is at ↦ subst (λ (s : State). Unnamed other s) (sym is) (unnamed_cons other (with_documents documents c) more first rest)
+      | later differs is at ↦ subst (λ (s : State). Unnamed other s) (sym is)
           (unnamed_cons other c (with_load name documents more) first (unnamed_load name other documents more ne rest))
     ]
 
-load_kept : (name : List ℕ) (documents : List Fields) (state : State) → EachIs IsDocument documents → IsState state → IsState (with_load name documents state)
-load_kept name documents [] all h =
-    state_cons (with_documents documents (new_collection name)) [] (collection_more (new_collection name) documents all (collection_new name)) (λ i d e same. absurd (cc)) state_none
-load_kept name documents (c ∷ more) all h =
+-- The collection of a name, if there is one, has no more than it may have.
+abbrev FitsAt : List ℕ → State → Type 0
+FitsAt name state = is_there_beyond (collection_at name state) ≡ false
+
+load_kept : (name : List ℕ) (documents : List Fields) (state : State) → EachIs IsDocument documents → length (with_load name documents state) ≤ most_collections → FitsAt name (with_load name documents state)
+    → IsState state → IsState (with_load name documents state)
+load_kept name documents [] all few fits h =
+    let more = with_documents documents (new_collection name) in
+    let found : collection_at name (more ∷ []) ≡ Some more = cond-true (is_named name more) _ _ ((bytes_eq-Decides name name).1 refl) in
+    state_cons more [] few (collection_more (new_collection name) documents all (collection_new name) (ap is_there_beyond (sym found) ∙ fits)) (λ i d e same. absurd (cc)) state_none
+load_kept name documents (c ∷ more) all few fits h =
     elim (reached name documents c more) [
-      | here is ↦ subst (λ (s : State). IsState s) (sym is)
-          (state_cons (with_documents documents c) more (collection_more c documents all (state_head c more h)) (state_apart c more h) (state_tail c more h))
-      | later differs is ↦ subst (λ (s : State). IsState s) (sym is)
-          (state_cons c (with_load name documents more) (state_head c more h)
-          (unnamed_load name c.name documents more (λ same. differs (sym same)) (state_apart c more h)) (load_kept name documents more all (state_tail c more h)))
+      | here is at ↦ subst (λ (s : State). IsState s) (sym is)
+          (state_cons (with_documents documents c) more (subst (λ (s : State). length s ≤ most_collections) is few)
+          (collection_more c documents all (state_head c more h) (ap is_there_beyond (sym at) ∙ fits)) (state_apart c more h) (state_tail c more h))
+      | later differs is at ↦
+          let long : length (c ∷ with_load name documents more) ≤ most_collections = subst (λ (s : State). length s ≤ most_collections) is few in
+          subst (λ (s : State). IsState s) (sym is)
+          (state_cons c (with_load name documents more) long (state_head c more h)
+          (unnamed_load name c.name documents more (λ same. differs (sym same)) (state_apart c more h))
+          (load_kept name documents more all (omega arith) (ap is_there_beyond (sym at) ∙ fits) (state_tail c more h)))
     ]
 
 -- ---- commits
@@ -192,10 +227,18 @@ plan_writes keeps None = tt
 plan_writes keeps (Some (statement.load collection json)) = load_writes keeps collection json (documents_of json) refl
 plan_writes keeps (Some (statement.select name collection)) = tt
 
+effect_kept : (state after : State) (rows : ℕ) (t : Bool) → IsState state → (t ≡ false → IsState after) → IsState (state_left state (cond t full (accepted after rows)))
+effect_kept state after rows true h k = h
+effect_kept state after rows false h k = k refl
+
 plan_kept : (plan : Plan) (state : State) → WritesDocuments plan → IsState state → IsState (state_behind plan state)
 plan_kept (refused line) state w h = h
 plan_kept (read query) state w h = h
-plan_kept (write (loads name docs)) state w h = load_kept name docs state w h
+plan_kept (write (loads name docs)) state w h =
+    let after = with_load name docs state in
+    effect_kept state after (length docs) (is_full name after) h
+    (λ fits. let both = or_parts (nat_lt most_collections (length after)) (is_there_beyond (collection_at name after)) fits in
+    load_kept name docs state w (not_above most_collections (length after) both.0) both.1 h)
 
 commits_kept : KeepsLimits → (texts : List (List ℕ)) (state : State) → IsState state → IsState (fold next_state state texts)
 commits_kept keeps [] state h = h

@@ -16,12 +16,12 @@ use Rattle.doc_values.specs.Value.{printed, IsOneLine, HasOneLineArray}
 use Rattle.doc_flatten.specs.Documents.{documents_of}
 use Rattle.doc_flatten.specs.Lines.{HasOneLineArrays}
 use Rattle.commit_core.specs.Statement as statement
-use Rattle.commit_core.specs.Grammar.{statement_of}
+use Rattle.commit_core.specs.Parsed.{statement_of}
 use Rattle.commit_core.specs.State.{State, documents_at, opening}
 use Rattle.commit_core.specs.Query.{line, ok_line, row_line, values_found}
-use Rattle.commit_core.specs.Write.{loads, with_load}
+use Rattle.commit_core.specs.Write.{accepted, full, loads, with_load, is_full}
 use Rattle.commit_core.specs.Plan.{Plan, refused, read, write, plan_of, plan_in, load_plan, syntax_line, json_line}
-use Rattle.commit_core.specs.Replies.{told_of, told_plan, next_state, state_behind, state_after}
+use Rattle.commit_core.specs.Replies.{told_of, told_plan, told_effect, full_line, next_state, state_left, state_behind, state_after}
 use Rattle.commit_core.specs.Lines.{is_mark, IsReplyLine, IsLines}
 use Rattle.commit_core.proofs.Loads.{same_or_not, documents_at-load, documents_at-load_other}
 
@@ -93,7 +93,7 @@ AreLines-syntax = AreLines-line 33 (codes " syntax") refl (IsPlain-tested (codes
 AreLines-range : AreLines (line (codes "! range"))
 AreLines-range = AreLines-line 33 (codes " range") refl (IsPlain-tested (codes "! range") refl)
 
-AreLines-full : AreLines (line (codes "! full"))
+AreLines-full : AreLines full_line
 AreLines-full = AreLines-line 33 (codes " full") refl (IsPlain-tested (codes "! full") refl)
 
 AreLines-json : (n : ℕ) → AreLines (json_line n)
@@ -169,22 +169,32 @@ IsPlainPlan-in gives None = AreLines-syntax
 IsPlainPlan-in gives (Some (statement.load collection json)) = IsPlainPlan-load gives collection json (documents_of json) refl
 IsPlainPlan-in gives (Some (statement.select name collection)) = tt
 
+IsPlainState-left : (state after : State) (rows : ℕ) (t : Bool) → IsPlainState state → IsPlainState after → IsPlainState (state_left state (cond t full (accepted after rows)))
+IsPlainState-left state after rows true h k = h
+IsPlainState-left state after rows false h k = k
+
 IsPlainState-behind : (plan : Plan) (state : State) → IsPlainPlan plan → IsPlainState state → IsPlainState (state_behind plan state)
 IsPlainState-behind (refused text) state p h = h
 IsPlainState-behind (read query) state p h = h
-IsPlainState-behind (write (loads name docs)) state p h = IsPlainState-load name docs state p h
+IsPlainState-behind (write (loads name docs)) state p h =
+    let after = with_load name docs state in
+    IsPlainState-left state after (length docs) (is_full name after) h (IsPlainState-load name docs state p h)
 
 IsPlainState-fold : GivesPlainArrays → (texts : List (List ℕ)) (state : State) → IsPlainState state → IsPlainState (fold next_state state texts)
 IsPlainState-fold gives [] state h = h
 IsPlainState-fold gives (text ∷ texts) state h =
     IsPlainState-fold gives texts (next_state state text) (IsPlainState-behind (plan_of text) state (IsPlainPlan-in gives (statement_of text)) h)
 
+AreLines-effect : (after : State) (rows : ℕ) (t : Bool) → AreLines (told_effect (cond t full (accepted after rows))).body
+AreLines-effect after rows true = AreLines-full
+AreLines-effect after rows false = AreLines-ok rows
+
 AreLines-told : PrintsPlainly → (plan : Plan) (state : State) → IsPlainPlan plan → IsPlainState state → AreLines (told_plan plan state).body
 AreLines-told prints (refused text) state p h = p
 AreLines-told prints (read query) state p h =
     let values = values_found query state in
     AreLines-rows prints values (values_are_plain query.name (documents_at query.collection state) (h query.collection)) (ok_line (length values)) (AreLines-ok (length values))
-AreLines-told prints (write (loads name docs)) state p h = AreLines-ok (length docs)
+AreLines-told prints (write (loads name docs)) state p h = AreLines-effect (with_load name docs state) (length docs) (is_full name (with_load name docs state))
 
 -- every reply is whole lines
 pub IsLines-told : PrintsPlainly → GivesPlainArrays → (text : List ℕ) (texts : List (List ℕ)) → IsLines (told_of text (state_after texts)).body

@@ -1,5 +1,6 @@
 pub mod Words
 pub mod Grammar
+pub mod Parsed
 pub mod Statement
 pub mod Spelled
 pub mod State
@@ -10,5 +11,7 @@ pub mod Replies
 pub mod Commits
 pub mod Agreement
 pub mod Planned
-pub mod Collections
 pub mod Lines
+pub mod StoredValue
+pub mod StoredDocument
+pub mod Loading

@@ -3,7 +3,7 @@ use Rattle.std.specs.Prelude.{ℕ, List, ◌++◌, codes, decimal, Option, Some,
 use Rattle.doc_values.specs.Doc.{Fields}
 use Rattle.doc_flatten.specs.Documents.{documents_of}
 use Rattle.commit_core.specs.Statement as statement
-use Rattle.commit_core.specs.Grammar.{statement_of}
+use Rattle.commit_core.specs.Parsed.{statement_of}
 use Rattle.commit_core.specs.Query.{Query, line}
 use Rattle.commit_core.specs.Write.{Write, loads}
 

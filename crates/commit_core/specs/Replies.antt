@@ -11,11 +11,15 @@ pub record Told : Type 0 where
   pub accepted : Bool
   pub body : List ℕ
 
+-- The line for a load after which the store would hold too much.
+abbrev pub full_line : List ℕ
+full_line = line (codes "! full")
+
 -- What a write is told for its effect.
 abbrev pub told_effect : Effect → Told
 told_effect (accepted state rows) = record { accepted = true; body = ok_line rows }
 told_effect range = record { accepted = false; body = line (codes "! range") }
-told_effect full = record { accepted = false; body = line (codes "! full") }
+told_effect full = record { accepted = false; body = full_line }
 
 -- What a plan is told over a state.
 abbrev pub told_plan : Plan → State → Told

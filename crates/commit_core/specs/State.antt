@@ -1,9 +1,21 @@
 -- What a store holds: its collections with their documents.
-use Rattle.std.specs.Prelude.{◌≡◌, ℕ, ◌<◌, List, [], Bool, map, Option, Some, None, slice_get}
+use Rattle.std.specs.Prelude.{◌≡◌, ℕ, ◌<◌, ◌≤◌, List, [], Bool, length, map, Option, Some, None, slice_get}
 use Rattle.std.specs.List.{find}
 use Rattle.std.specs.Str.{bytes_eq}
 use Rattle.doc_values.specs.Doc.{Fields, IsDocument}
 use Rattle.doc_values.specs.declared.kind.Kind.{Kind}
+
+-- How many collections a state may have.
+abbrev pub most_collections : ℕ
+most_collections = 256
+
+-- How many pairs of name and kind may ever be written into one collection.
+abbrev pub most_pairs : ℕ
+most_pairs = 65536
+
+-- How many versions may be written into one collection.
+abbrev pub most_versions : ℕ
+most_versions = 2097152
 
 -- A document in its row.
 pub record Row : Type 0 where
@@ -51,9 +63,17 @@ pub record IsCollection (collection : Collection) : Type 0 where
   pub below : (i : ℕ) (row : Row) → slice_get collection.rows i ≡ Some row → row.number < collection.next_row
   -- each row has a document
   pub documents : (i : ℕ) (row : Row) → slice_get collection.rows i ≡ Some row → IsDocument row.document
+  -- no pair of name and kind stands twice
+  pub once : (i j : ℕ) (a b : List ℕ × Kind) → slice_get collection.pairs i ≡ Some a → slice_get collection.pairs j ≡ Some b → a ≡ b → i ≡ j
+  -- it has no more pairs than it may have
+  pub few_pairs : length collection.pairs ≤ most_pairs
+  -- and no more versions
+  pub few_versions : collection.versions ≤ most_versions
 
 -- The rules that a state keeps.
 pub record IsState (state : State) : Type 0 where
+  -- it has no more collections than it may have
+  pub few : length state ≤ most_collections
   -- no two collections have one name
   pub names : (i j : ℕ) (a b : Collection) → slice_get state i ≡ Some a → slice_get state j ≡ Some b → a.name ≡ b.name → i ≡ j
   -- each collection keeps its rules

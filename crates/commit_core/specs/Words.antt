@@ -1,8 +1,9 @@
 -- The words that statements are written in.
 use Rattle.std.specs.Prelude.{ℕ, List, [], ◌∷◌, Bool, false, ◌&&◌, ◌||◌, ◌==◌, not, nat_le, length, codes}
 use Rattle.std.specs.Char.{is_ascii_alphabetic, is_ascii_digit}
-use Rattle.std.specs.List.{list_all, list_any}
+use Rattle.std.specs.List.{list_all, list_any, slice_split}
 use Rattle.std.specs.Str.{str_eq_ignore_ascii_case}
+use Rattle.doc_flatten.specs.Tree.{is_key}
 
 -- White space: a space, a tab, a carriage return or a line feed.
 abbrev pub is_space : ℕ → Bool
@@ -44,3 +45,15 @@ is_name word = is_word word && nat_le (length word) 255 && not (is_reserved word
 -- A word that is the name of a collection: at most 63 bytes, and not reserved.
 abbrev pub is_collection : List ℕ → Bool
 is_collection word = is_word word && nat_le (length word) 63 && not (is_reserved word)
+
+-- A quotation mark.
+abbrev pub is_quote : ℕ → Bool
+is_quote c = c == 34
+
+-- A dot.
+abbrev pub is_dot : ℕ → Bool
+is_dot c = c == 46
+
+-- A name of a member that may stand in quotes: keys of members with a dot between any two, at most 255 bytes. It may be reserved.
+abbrev pub is_path : List ℕ → Bool
+is_path name = list_all is_key (slice_split is_dot name) && nat_le (length name) 255

@@ -1,16 +1,20 @@
 -- What a write does to a state.
-use Rattle.std.specs.Prelude.{ℕ, ◌+◌, List, [], ◌∷◌, ◌++◌, Bool, ◌&&◌, true, false, length, map, fold, if◌then◌else◌}
+use Rattle.std.specs.Prelude.{ℕ, ◌+◌, List, [], ◌∷◌, ◌++◌, Bool, ◌&&◌, ◌||◌, true, false, nat_lt, length, map, fold, Option, Some, None, if◌then◌else◌}
 use Rattle.std.specs.List.{list_any}
 use Rattle.std.specs.Str.{bytes_eq}
 use Rattle.doc_values.specs.Doc.{Fields}
 use Rattle.doc_values.specs.Value.{kind_of}
 use Rattle.doc_values.specs.declared.kind.Kind.{Kind}
 use Rattle.doc_values.specs.declared.kind.Kind.TheVariants as kind
-use Rattle.commit_core.specs.State.{Row, Collection, State, is_named}
+use Rattle.commit_core.specs.State.{Row, Collection, State, is_named, collection_at, most_collections, most_pairs, most_versions}
 
 -- A write: a load of documents into a collection.
 pub data Write : Type 0 where
   loads : List ℕ → List Fields → Write
+
+-- The most that a document of a load weighs: 16 bytes for each byte of a statement's text.
+abbrev pub most_weight : ℕ
+most_weight = 16777216
 
 -- What becomes of a write: it is accepted, with the state after it and a number of rows; or a number leaves its range; or the store is full.
 pub data Effect : Type 0 where
@@ -65,6 +69,23 @@ with_load name documents [] = with_documents documents (new_collection name) ∷
 with_load name documents (collection ∷ more) =
     if is_named name collection then with_documents documents collection ∷ more else collection ∷ with_load name documents more
 
--- The effect of a write. A load is always accepted, and answers how many documents it has.
+-- The collection has more pairs of name and kind, or more versions, than it may have.
+abbrev pub is_beyond : Collection → Bool
+is_beyond collection = nat_lt most_pairs (length collection.pairs) || nat_lt most_versions collection.versions
+
+-- There is a collection, and it has more than it may have.
+abbrev pub is_there_beyond : Option Collection → Bool
+is_there_beyond None = false
+is_there_beyond (Some collection) = is_beyond collection
+
+-- The state after a load into the named collection has more collections than it may have, or that collection has more than it may have.
+abbrev pub is_full : List ℕ → State → Bool
+is_full name state = nat_lt most_collections (length state) || is_there_beyond (collection_at name state)
+
+-- The effect of a load that would leave this state: it is accepted unless the state would hold too much.
+abbrev pub load_effect : List ℕ → List Fields → State → Effect
+load_effect name documents after = if is_full name after then full else accepted after (length documents)
+
+-- The effect of a write. An accepted load answers how many documents it has.
 abbrev pub effect_of : Write → State → Effect
-effect_of (loads name documents) state = accepted (with_load name documents state) (length documents)
+effect_of (loads name documents) state = load_effect name documents (with_load name documents state)

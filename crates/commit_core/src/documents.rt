@@ -1,7 +1,6 @@
-ghost use Rattle.std.specs.Prelude.{◌≡◌, ◌++◌, length, map, IfOk, OnOk, OnErr, option_copied};
+ghost use Rattle.std.specs.Prelude.{◌≡◌, ◌<◌, Some, slice_get, length};
 
-use doc_values::{Doc, Value};
-use std::alloc::{AllocError, Global};
+use doc_values::Doc;
 use std::marker::Model;
 
 /// A list of documents.
@@ -20,8 +19,6 @@ impl Model for Documents {
 }
 
 impl Documents {
-    ghost use Rattle.doc_values.specs.Doc.{value_at};
-
     /// The documents of a vector.
     pub(crate) fn from_vec(items: Vec<Doc>) -> Documents
         ensures exact { result ≡ items.items }
@@ -36,46 +33,11 @@ impl Documents {
         self.items.len()
     }
 
-    /// An equal list of its own.
-    pub(crate) fn copy(&self) -> Result<Documents, AllocError>
-        ensures ok { IfOk result (λ copy. copy ≡ self.now) }
+    /// The document at a place.
+    pub(crate) fn get(&self, place: usize) -> &Doc
+        requires { place < length self.now }
+        ensures exact { slice_get self.now place ≡ Some result.now }
     {
-        let mut items = Vec::with_capacity(self.allocator(), self.items.len())?;
-        for document in &self.items {
-            items.push(document.copy()?)?;
-        }
-        Ok(Documents { items })
-    }
-
-    /// Puts further documents behind those that are there.
-    pub(crate) fn append(&mut self, mut more: Documents) -> Result<(), AllocError>
-        ensures ok { OnOk result (self.new ≡ self.old ++ more) }
-        ensures memory { OnErr result (self.new ≡ self.old) }
-    {
-        self.items.append(&mut more.items)
-    }
-
-    /// What each document has under a name.
-    pub(crate) fn values(&self, name: &str) -> Result<Vec<Option<Value>>, AllocError>
-        ensures ok { IfOk result (λ values. values.items ≡ map (value_at name.now) self.now) }
-    {
-        let mut values = Vec::with_capacity(self.allocator(), self.items.len())?;
-        for document in &self.items {
-            values.push(copy_of(document.get(name))?)?;
-        }
-        Ok(values)
-    }
-
-    fn allocator(&self) -> Global {
-        *self.items.allocator()
-    }
-}
-
-fn copy_of(value: Option<&Value>) -> Result<Option<Value>, AllocError>
-    ensures ok { IfOk result (λ copy. copy ≡ option_copied value.entry) }
-{
-    match value {
-        Some(value) => Ok(Some(value.copy()?)),
-        None => Ok(None),
+        &self.items[place]
     }
 }

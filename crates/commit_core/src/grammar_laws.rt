@@ -1,5 +1,6 @@
 ghost use Rattle.std.specs.Prelude.{◌≡◌, ◌↔◌, ℕ, List, Some};
-ghost use Rattle.commit_core.specs.Grammar.{statement_of, Spells};
+ghost use Rattle.commit_core.specs.Grammar.{Spells};
+ghost use Rattle.commit_core.specs.Parsed.{statement_of};
 ghost use Rattle.commit_core.specs.Statement.{Statement};
 
 /// Law: the statement that is read in a text is the one that the text spells, and where none is read none is spelled.

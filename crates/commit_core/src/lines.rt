@@ -1,6 +1,7 @@
 ghost use Rattle.std.specs.Prelude.{◌≡◌, IfOk};
 ghost use Rattle.commit_core.specs.Plan.{syntax_line, json_line};
 ghost use Rattle.commit_core.specs.Query.{ok_line};
+ghost use Rattle.commit_core.specs.Replies.{full_line};
 
 use doc_values::Bytes;
 use std::alloc::{AllocError, Global};
@@ -17,6 +18,13 @@ pub(crate) fn json_line(alloc: Global, number: u64) -> Result<Bytes, AllocError>
     ensures ok { IfOk result (λ line. line ≡ json_line number) }
 {
     Ok(Bytes::from_vec(format!(in alloc; "! json {number}\n")?.into_bytes()))
+}
+
+/// The line for a load after which the store would hold too much.
+pub(crate) fn full_line(alloc: Global) -> Result<Bytes, AllocError>
+    ensures ok { IfOk result (λ line. line ≡ full_line) }
+{
+    Ok(Bytes::from_vec(format!(in alloc; "! full\n")?.into_bytes()))
 }
 
 /// The line that ends an answer.

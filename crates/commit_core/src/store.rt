@@ -1,14 +1,16 @@
-ghost use Rattle.std.specs.Prelude.{◌≡◌, [], List, length, map, IfOk, OnOk, OnErr, IsSome, None};
+ghost use Rattle.std.specs.Prelude.{◌≡◌, [], List, length, map, IfOk, OnOk, OnErr, IsSome, None, false};
 
 use crate::collections::Collections;
 use crate::documents::Documents;
 use crate::entry::Entry;
-use crate::lines::ok_line;
+use crate::lines::{full_line, ok_line};
+use crate::load_refusal::LoadRefusal;
 use crate::planned::Planned;
 use crate::prepared::Prepared;
 use crate::prepared_sort::PreparedSort;
 use crate::reading::Reading;
 use crate::reply::Reply;
+use crate::state_laws::loads_are_light;
 use doc_values::{Bytes, Utf, Value};
 use std::alloc::{AllocError, Global};
 use std::marker::Model;
@@ -21,16 +23,15 @@ pub struct Core {
 }
 
 impl Model for Core {
-    ghost use Rattle.std.specs.Prelude.{List};
+    ghost use Rattle.std.specs.Prelude.{◌≡◌, List};
     ghost use Rattle.commit_core.specs.declared.entry.Entry.{Entry as EntryOf};
     ghost use Rattle.commit_core.specs.Commits.{state_of};
-    ghost use Rattle.commit_core.specs.Collections.{HoldsState};
 
     ghost Value = { List EntryOf };
 
     ghost view = { λ c. c.commits.items };
 
-    ghost invariant = { λ c. HoldsState (state_of c.commits.items) c.collections };
+    ghost invariant = { λ c. c.collections ≡ state_of c.commits.items };
 }
 
 impl Core {
@@ -82,11 +83,8 @@ impl Core {
         let Planned::Refused(line) = prepared.planned() else {
             unreachable!()
         };
-        Ok(Reply {
-            at: self.now(),
-            accepted: false,
-            body: Bytes::from_vec(Vec::from_slice(self.allocator(), line.items())?),
-        })
+        let line = Vec::from_slice(self.allocator(), line.items())?;
+        Ok(self.refused(Bytes::from_vec(line)))
     }
 
     /// Begins a query at the newest number; nothing is read yet.
@@ -130,22 +128,38 @@ impl Core {
         ensures ok { IfOk result (λ reply. IsWrite caller text.now self.old self.new reply) }
         ensures memory { OnErr result (self.new ≡ self.old) }
     {
+        loads_are_light();
         let entry = Entry {
             caller,
             text: text.copy()?,
         };
-        let copied = documents.copy()?;
         let alloc = self.allocator();
         let body = ok_line(alloc, documents.len())?;
         self.commits.reserve(1)?;
-        self.collections.append(alloc, collection.text(), copied)?;
-        // Room was made, so this never fails.
-        self.commits.push(entry)?;
-        Ok(Reply {
-            at: self.commits.len() as u64,
-            accepted: true,
-            body,
-        })
+        match self.collections.load(collection.text(), documents) {
+            Ok(()) => {
+                // Room was made, so this never fails.
+                self.commits.push(entry)?;
+                Ok(Reply {
+                    at: self.commits.len() as u64,
+                    accepted: true,
+                    body,
+                })
+            }
+            Err(LoadRefusal::Full) => Ok(self.refused(full_line(alloc)?)),
+            Err(LoadRefusal::Memory) => Err(AllocError),
+        }
+    }
+
+    // The reply that refuses a text with a line.
+    fn refused(&self, line: Bytes) -> Reply
+        ensures exact { result ≡ record { at = length self.now; accepted = false; body = line } }
+    {
+        Reply {
+            at: self.now(),
+            accepted: false,
+            body: line,
+        }
     }
 
     // The values that a query finds.
@@ -153,7 +167,7 @@ impl Core {
         ensures ok { IfOk result (λ values. values.items ≡ values_found (record { name = name.now; collection = collection.now }) (state_of self.now)) }
     {
         match self.collections.get(collection.text()) {
-            Some(documents) => documents.values(name.text()),
+            Some(table) => table.values(name.text()),
             None => Ok(Vec::new(self.allocator())),
         }
     }

@@ -58,12 +58,15 @@ fn answers_over_what_was_loaded(rt: HostRuntime) -> Result<(), Fail> {
             "SELECT n FROM u",
             "5 [-9223372036854775808]\n[9223372036854775807]\n[null]\nok 3\n",
         ),
+        ("LOAD v {\"u\":{\"x\":1}}", "6+ ok 1\n"),
+        ("SELECT \"u.x\" FROM v", "6 [1]\nok 1\n"),
+        ("SELECT \"u\" FROM v", "6 [null]\nok 1\n"),
     ];
     for (text, want) in rows {
         let reply = reply(alloc, &mut core, text)?;
         assert_eq!(rt; shown(alloc, &reply)?.as_str(), want, "to {text}");
     }
-    assert_eq!(rt; core.now(), 5);
+    assert_eq!(rt; core.now(), 6);
     Ok(())
 }
 

@@ -1,7 +1,7 @@
 ghost use Rattle.std.specs.Prelude.{◌≡◌, length};
 ghost use Rattle.std.specs.List.{list_all, list_any, prefix_len, suffix_len, take_while};
 ghost use Rattle.commit_core.specs.Words.{is_collection, is_keyword, is_name, is_reserved, is_space, is_word, is_word_byte, is_word_start};
-ghost use Rattle.commit_core.specs.Grammar.{behind_word, skip_space, trim, word_in};
+ghost use Rattle.commit_core.specs.Parsed.{behind_word, skip_space, trim, word_in};
 
 /// The words that are no names, in any case of letters.
 const RESERVED: [&str; 29] = [
@@ -11,7 +11,7 @@ const RESERVED: [&str; 29] = [
 ];
 
 /// The most bytes of a member's name.
-const MOST_NAME_BYTES: usize = 255;
+pub(crate) const MOST_NAME_BYTES: usize = 255;
 
 /// The most bytes of a collection's name.
 const MOST_COLLECTION_BYTES: usize = 63;
@@ -88,7 +88,8 @@ fn goes_on_word(bytes: &[u8]) -> bool
     bytes.iter().all(|byte| is_word_byte(*byte))
 }
 
-fn skip_space(text: &str) -> &str
+/// The text from the first byte on that is no white space.
+pub(crate) fn skip_space(text: &str) -> &str
     ensures exact { result.now ≡ skip_space text.now }
 {
     &text[space_len(text)..]

@@ -46,7 +46,7 @@ fn scripts_print_their_runs(rt: HostRuntime) -> Result<(), Fail> {
     for script in same {
         ends(&rt, script, Status::Done, PRINTED)?;
     }
-    let rows: [(&[u8], &[u8]); 12] = [
+    let rows: [(&[u8], &[u8]); 13] = [
         (b"", b". 0\n"),
         (b"# nothing\n\n", b". 0\n"),
         (b"1 SELECT a FROM t", b"#1.1 @0\nok 0\n. 0\n"),
@@ -85,6 +85,10 @@ fn scripts_print_their_runs(rt: HostRuntime) -> Result<(), Fail> {
         (
             b"1 SELECT a FROM t\n1 LOAD t {\"a\":1}\n1 LOAD u {\"a\":2}\n1 SELECT a FROM u",
             b"#1.1 @0\nok 0\n#1.2 @1\nok 1\n#1.3 @2\nok 1\n#1.4 @2\n[2]\nok 1\n= 1 1.2\n= 2 1.3\n. 2\n",
+        ),
+        (
+            b"1 LOAD t {\"u\":{\"x\":1}}\n1 SELECT \"u.x\" FROM t\n1 LOAD t []",
+            b"#1.1 @1\nok 1\n#1.2 @1\n[1]\nok 1\n#1.3 @2\nok 0\n= 1 1.1\n= 2 1.3\n. 2\n",
         ),
     ];
     for (script, output) in rows {

@@ -77,7 +77,6 @@ fn statements_are_read_by_the_rules(rt: HostRuntime) -> Result<(), Fail> {
         // No selection today, or never one.
         ("SELECT a FROM t;", None),
         ("SELECT a, b FROM t", None),
-        ("SELECT \"a\" FROM t", None),
         ("SELECT * FROM t", None),
         ("SELECT from FROM t", None),
         ("SELECT a FROM null", None),
@@ -140,6 +139,68 @@ fn statements_are_read_by_the_rules(rt: HostRuntime) -> Result<(), Fail> {
     check(
         &rt,
         text_with(alloc, "LOAD t", 1_048_569, ' ', "{}")?.as_str(),
+        None,
+    );
+    Ok(())
+}
+
+#[test]
+fn a_selection_may_quote_its_name(rt: HostRuntime) -> Result<(), Fail> {
+    let rows = [
+        // Quotes separate, and what stands between them is the name.
+        ("SELECT \"u.x\" FROM t", select("u.x", "t")),
+        ("SELECT\"u.x\"FROM t", select("u.x", "t")),
+        ("select\"a\"from t", select("a", "t")),
+        ("SELECT\r\n\t\"a\"\t\n\rFROM\tt\n", select("a", "t")),
+        ("SELECT \"select\" FROM t", select("select", "t")),
+        ("SELECT \"FROM\"FROM t", select("FROM", "t")),
+        ("SELECT \"a b.c d\" FROM t", select("a b.c d", "t")),
+        ("SELECT \" \" FROM t", select(" ", "t")),
+        ("SELECT \"1.5\" FROM t", select("1.5", "t")),
+        ("SELECT \"a\\b\" FROM t", select("a\\b", "t")),
+        ("SELECT \"'x', *\" FROM t", select("'x', *", "t")),
+        ("SELECT \"ä.\u{a0}\" FROM t", select("ä.\u{a0}", "t")),
+        ("SELECT \"\u{7f}\" FROM t", select("\u{7f}", "t")),
+        // A segment is empty, or holds what it may not.
+        ("SELECT \"\" FROM t", None),
+        ("SELECT \".\" FROM t", None),
+        ("SELECT \".a\" FROM t", None),
+        ("SELECT \"a.\" FROM t", None),
+        ("SELECT \"a..b\" FROM t", None),
+        ("SELECT \"a\tb\" FROM t", None),
+        ("SELECT \"a\u{1f}b\" FROM t", None),
+        // Quotes are no part of a word, and stand nowhere else.
+        ("SELECT \"a FROM t", None),
+        ("SELECT a\" FROM t", None),
+        ("SELECT a\"b\" FROM t", None),
+        ("SELECT \"a\"b FROM t", None),
+        ("SELECT \"a\"\" FROM t", None),
+        ("SELECT \"a\"\"b\" FROM t", None),
+        ("SELECT \"a\".\"b\" FROM t", None),
+        ("SELECT t.\"b\" FROM t", None),
+        ("SELECT \"a\", b FROM t", None),
+        ("SELECT \"a\" FROM \"t\"", None),
+        ("SELECT \"a\" FROM\"t\"", None),
+        ("SELECT \"a\" \"FROM\" t", None),
+        ("SELECT \"a\" FROMt", None),
+        ("SELECT \"a\"", None),
+        ("SELECT \"", None),
+        ("\"SELECT\" a FROM t", None),
+        ("SELECT \u{a0}\"a\" FROM t", None),
+    ];
+    for (text, wanted) in rows {
+        check(&rt, text, wanted);
+    }
+    let alloc = rt.alloc();
+    let name = text_with(alloc, "a.", 253, 'n', "")?;
+    check(
+        &rt,
+        text_with(alloc, "SELECT \"a.", 253, 'n', "\" FROM t")?.as_str(),
+        select(name.as_str(), "t"),
+    );
+    check(
+        &rt,
+        text_with(alloc, "SELECT \"a.", 254, 'n', "\" FROM t")?.as_str(),
         None,
     );
     Ok(())

@@ -1,9 +1,0 @@
-use Rattle.std.proofs.Common.{arith}
-use Rattle.std.proofs.lemmas.Map.Text.{text_keys}
-use Rattle.commit_core.proofs.collections.Collections.insert.Goals as goal
-
-pub returns-clause-ok : goal.returns-clause-ok
-returns-clause-ok c = record {
-  added = grind (arith, text_keys);
-  others = λ other ne. grind (arith, text_keys);
-}

@@ -1,0 +1,77 @@
+ghost use Rattle.std.specs.Prelude.{◌≡◌, ◌≤◌, [], List, length, true, false, Err, All, map, IfOk, OnOk, OnErr};
+ghost use Rattle.doc_flatten.specs.Documents.{IsWithinLimits};
+
+use crate::documents::Documents;
+use crate::load_refusal::LoadRefusal;
+use crate::loading::load;
+use crate::record::Record;
+use crate::record_reading::values_under;
+use attr_catalog::Catalog;
+use doc_values::{Utf, Value, documents_are_maps};
+use std::alloc::{AllocError, Global};
+use std::marker::Model;
+
+/// One collection: its name, its attributes and a record for each document.
+#[derive(Drop)]
+pub(crate) struct Table {
+    name: Utf,
+    catalog: Catalog,
+    records: Vec<Record>,
+}
+
+impl Model for Table {
+    ghost use Rattle.commit_core.specs.State.{Collection};
+    ghost use Rattle.commit_core.specs.StoredDocument.{collection_of, IsTable};
+
+    ghost Value = { Collection };
+
+    ghost view = { λ t. collection_of t.name t.catalog t.records.items };
+
+    ghost invariant = { λ t. IsTable t.catalog t.records.items };
+}
+
+impl Table {
+    ghost use Rattle.doc_values.specs.Doc.{value_at};
+    ghost use Rattle.doc_values.specs.Weight.{weight_of};
+    ghost use Rattle.commit_core.specs.Write.{new_collection, with_documents, is_beyond, most_weight};
+
+    /// A collection that nothing was put into.
+    pub(crate) fn new(alloc: Global, name: &str) -> Result<Table, AllocError>
+        ensures ok { IfOk result (λ table. table ≡ new_collection name.now) }
+    {
+        Ok(Table {
+            name: Utf::of(alloc, name)?,
+            catalog: Catalog::new(alloc),
+            records: Vec::new(alloc),
+        })
+    }
+
+    /// The name of the collection.
+    pub(crate) fn name(&self) -> &str
+        ensures exact { result.now ≡ self.now.name }
+    {
+        self.name.text()
+    }
+
+    /// Puts documents behind those that are there.
+    pub(crate) fn load(&mut self, documents: &Documents) -> Result<(), LoadRefusal>
+        requires limits { All IsWithinLimits documents.now }
+        requires light { All (λ document. weight_of document ≤ most_weight) documents.now }
+        ensures ok { OnOk result (self.new ≡ with_documents documents.now self.old) }
+        ensures within { OnOk result (is_beyond (with_documents documents.now self.old) ≡ false) }
+        ensures full { result ≡ Err LoadRefusal.Full → is_beyond (with_documents documents.now self.old) ≡ true }
+        ensures kept { OnErr result (self.new ≡ self.old) }
+    {
+        load(&mut self.catalog, &mut self.records, documents)
+    }
+
+    /// What each document has under a name.
+    pub(crate) fn values(&self, name: &str) -> Result<Vec<Option<Value>>, AllocError>
+        ensures ok { IfOk result (λ values. values.items ≡ map (value_at name.now) (map (λ row. row.document) self.now.rows)) }
+    {
+        documents_are_maps();
+        let _once = self.catalog.len();
+        let kinds = self.catalog.kinds_of(name);
+        values_under(*self.records.allocator(), &kinds, &self.records)
+    }
+}
