@@ -1,0 +1,44 @@
+-- The equations of what expressions mean and need.
+use Rattle.std.proofs.Common.{◌≡◌, ℕ, ◌≤◌, ℤ, neg_ℤ, Bool, true, false, ◌&&◌, List, [], ◌∷◌, Option, Some, option_map, if◌then◌else◌, sym, ap, ◌∙◌, refl}
+use Rattle.std.proofs.Math.Nat.{le_trans}
+use Rattle.std.proofs.Math.Pow.{pow_mono}
+use Rattle.std.proofs.lemmas.Bool.{leb-true}
+use Rattle.doc_values.specs.declared.value.Value.{Value}
+use Rattle.sql_eval.specs.declared.addend.Addend.{Addend}
+use Rattle.sql_eval.specs.declared.expr.Expr.{Expr}
+use Rattle.sql_eval.specs.declared.expr.Expr.TheOpen.{Expr-F}
+use Rattle.sql_eval.specs.declared.expr.Expr.TheVariants as expr
+use Rattle.sql_eval.specs.declared.expr.Expr.TheFolds.{fold-roll-Expr, fold_out-Addend}
+use Rattle.sql_eval.specs.Contents.{Cells}
+use Rattle.sql_eval.specs.Operators.{number_of, signed}
+use Rattle.sql_eval.specs.Resolved.{value_step, added_step, value_over, added_over}
+use Rattle.sql_eval.specs.Widths.{Width, over, width_step, width_of, width_in}
+use Rattle.sql_eval.specs.Within.{IsNumberWithin}
+
+-- A member of a sum needs what its expression needs.
+pub width_in-is : (k : ℕ) (a : Addend) → width_in k a ≡ width_of k a.expr
+width_in-is k a = fold_out-Addend Width Width (width_step k) (λ a. a.expr) a
+
+-- A member of a sum adds the number of its expression, or takes it away.
+pub added_over-is : (tuple : List (Option Cells)) (a : Addend) → added_over tuple a ≡ signed a.minus (number_of (value_over tuple a.expr))
+added_over-is tuple a = fold_out-Addend (Option Value) (Option ℤ) (value_step tuple) added_step a
+
+-- What is added is there if the number is.
+pub signed_some : (minus : Bool) (v : Option ℤ) (n : ℤ) → v ≡ Some n → signed minus v ≡ Some (if minus then neg_ℤ n else n)
+signed_some true v n e = ap (option_map neg_ℤ) e
+signed_some false v n e = e
+
+width-Minus : (k : ℕ) (e : Expr) → width_of k (expr.Minus e) ≡ over (width_of k e).bits (width_of k e ∷ [])
+width-Minus k e = ap (width_of k) (sym (expr.rolls-Minus e)) ∙ fold-roll-Expr Width Width (width_step k) (λ a. a.expr) (Expr-F.Minus e)
+
+and_first : (a b : Bool) → (a && b) ≡ true → a ≡ true
+and_first true b h = refl
+and_first false b h = h
+
+-- What is turned round in a narrow expression needs at most 126 bits.
+pub narrow-Minus : (k : ℕ) (e : Expr) → (width_of k (expr.Minus e)).narrow ≡ true → (width_of k e).bits ≤ 126
+narrow-Minus k e h = leb-true (width_of k e).bits 126 (and_first _ _ (sym (ap (λ w. w.narrow) (width-Minus k e)) ∙ h))
+
+-- What is within some bits is within more.
+pub within_more : (bits more : ℕ) (n : ℤ) → bits ≤ more → IsNumberWithin bits n → IsNumberWithin more n
+within_more bits more n h inside = le_trans inside (pow_mono {i = bits} {j = more} h)

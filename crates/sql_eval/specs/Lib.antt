@@ -1,0 +1,11 @@
+pub mod Truth
+pub mod Like
+pub mod Operators
+pub mod Kinds
+pub mod Meaning
+pub mod Contents
+pub mod Resolved
+pub mod Widths
+pub mod Run
+pub mod Within
+pub mod Resolves

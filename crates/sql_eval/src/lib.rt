@@ -1,0 +1,56 @@
+//! Expressions: what a term means over documents, and the same once its columns are places in rows.
+//!
+//! The one promise: an expression over rows has the value that its definition gives it, with NULL for no value and with
+//! SQL's three truth values. It knows nothing of texts, stores, or how rows are read, joined, grouped and put in order.
+//! Read `specs/Meaning.antt` first, then `specs/Resolved.antt`.
+#![tactic(auto)]
+
+mod addend;
+mod arithmetic;
+mod delete_plan;
+mod evaluation;
+mod expr;
+mod from_plan;
+mod join_plan;
+mod key_plan;
+mod laws;
+mod lending;
+mod operators;
+mod out_row;
+mod pattern;
+mod row;
+mod rows;
+mod run;
+mod select_plan;
+mod set_plan;
+mod slot;
+mod table_rows;
+#[cfg(test)]
+mod tests;
+mod truth_value;
+mod tuple;
+mod tuples;
+mod update_plan;
+mod value_ref;
+
+pub use addend::Addend;
+pub use delete_plan::DeletePlan;
+pub use evaluation::{eval, truth};
+pub use expr::Expr;
+pub use from_plan::FromPlan;
+pub use join_plan::JoinPlan;
+pub use key_plan::KeyPlan;
+pub use laws::resolving_keeps_meaning;
+pub use out_row::OutRow;
+pub use pattern::like;
+pub use row::Row;
+pub use rows::Rows;
+pub use select_plan::SelectPlan;
+pub use set_plan::SetPlan;
+pub use slot::Slot;
+pub use table_rows::TableRows;
+pub use truth_value::Truth;
+pub use tuple::Tuple;
+pub use tuples::Tuples;
+pub use update_plan::UpdatePlan;
+pub use value_ref::ValueRef;
