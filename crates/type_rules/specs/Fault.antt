@@ -1,0 +1,18 @@
+-- The first rule that a statement breaks.
+use Rattle.std.specs.Prelude.{Option, Some, None, if◌then◌else◌}
+use Rattle.sql_tree.specs.declared.select.Select.{Select}
+use Rattle.sql_tree.specs.declared.statement.Statement as statement
+use Rattle.type_rules.specs.declared.type_fault.TypeFault.{TypeFault}
+use Rattle.type_rules.specs.declared.type_fault.TypeFault.TheVariants.{Name, Kind, Wide}
+use Rattle.type_rules.specs.Names.{names_hold}
+use Rattle.type_rules.specs.Kinds.{kinds_hold}
+use Rattle.type_rules.specs.Widths.{widths_hold}
+
+-- The first rule that a question breaks: names, kinds, widths. The rule of groups stands between names and kinds, and holds of each question that groups nothing.
+abbrev pub question_fault : Select → Option TypeFault
+question_fault s = if names_hold s then (if kinds_hold s then (if widths_hold s then None else Some Wide) else Some Kind) else Some Name
+
+-- The first rule that a statement breaks; a load breaks none.
+abbrev pub fault_of : statement.Statement → Option TypeFault
+fault_of (statement.TheVariants.Select s) = question_fault s
+fault_of _ = None

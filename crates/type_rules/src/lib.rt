@@ -1,0 +1,21 @@
+//! The rules that a statement has to keep before it runs, and its plan: names, kinds, and widths of numbers.
+//!
+//! The one promise: a statement is answered the first rule that it breaks, or a plan that means what it means, over the
+//! columns that it reads. It knows nothing of texts, stores, rows or answers.
+//! Read `specs/Fault.antt` first, then `specs/Names.antt`, `specs/Kinds.antt`, `specs/Widths.antt` and `specs/Plan.antt`.
+#![tactic(auto)]
+
+mod fitting;
+mod own_kinds;
+mod place;
+mod references;
+mod rules;
+mod rules_kept;
+mod type_fault;
+mod typed_statement;
+mod typing;
+mod widths;
+
+pub use type_fault::TypeFault;
+pub use typed_statement::Typed;
+pub use typing::typed;

@@ -1,0 +1,76 @@
+ghost use Rattle.std.specs.Prelude.{◌≡◌, [], ◌∷◌, map, None, OnOk, IfErr};
+ghost use Rattle.type_rules.specs.Places.{alias_of, placed, places_of};
+ghost use Rattle.type_rules.specs.Written.{IsQuestion};
+ghost use Rattle.type_rules.specs.Names.{names_hold};
+ghost use Rattle.type_rules.specs.Kinds.{kinds_hold};
+ghost use Rattle.type_rules.specs.Widths.{widths_hold};
+ghost use Rattle.type_rules.specs.Fault.{question_fault};
+
+use crate::place::Place;
+use crate::rules::{aliases_differ, places_bound, places_fit, places_narrow};
+use crate::type_fault::TypeFault;
+use sql_tree::{Select, Table};
+
+// The first rule that a question breaks, if it breaks one.
+pub(crate) fn keep_rules(select: &Select, places: &[Place]) -> Result<(), TypeFault>
+    requires question { IsQuestion select.now }
+    requires places { map (λ p. placed p.term.now p.want) places.now ≡ places_of select.now }
+    ensures ok { OnOk result (question_fault select.now ≡ None) }
+    ensures err { IfErr result (λ fault. question_fault select.now ≡ Some fault) }
+{
+    if !names_hold(select, places) {
+        return Err(TypeFault::Name);
+    }
+    if !kinds_hold(select, places) {
+        return Err(TypeFault::Kind);
+    }
+    if !widths_hold(select, places) {
+        return Err(TypeFault::Wide);
+    }
+    Ok(())
+}
+
+// Whether a question keeps the rule of names.
+fn names_hold(select: &Select, places: &[Place]) -> bool
+    requires question { IsQuestion select.now }
+    requires places { map (λ p. placed p.term.now p.want) places.now ≡ places_of select.now }
+    ensures exact { result ≡ names_hold select.now }
+{
+    let alias = alias(table(select));
+    aliases_differ(select.items.as_slice()) && places_bound(places, alias)
+}
+
+// Whether a question keeps the rule of kinds.
+fn kinds_hold(select: &Select, places: &[Place]) -> bool
+    requires places { map (λ p. placed p.term.now p.want) places.now ≡ places_of select.now }
+    ensures exact { result ≡ kinds_hold select.now }
+{
+    places_fit(places)
+}
+
+// Whether a question keeps the rule of widths.
+fn widths_hold(select: &Select, places: &[Place]) -> bool
+    requires question { IsQuestion select.now }
+    requires places { map (λ p. placed p.term.now p.want) places.now ≡ places_of select.now }
+    ensures exact { result ≡ widths_hold select.now }
+{
+    places_narrow(places)
+}
+
+// The one table of a question.
+pub(crate) fn table(select: &Select) -> &Table
+    requires { IsQuestion select.now }
+    ensures exact { select.now.tables ≡ result.now ∷ [] }
+{
+    &select.tables.as_slice()[0]
+}
+
+// The alias of a table: its collection where it has none.
+pub(crate) fn alias(table: &Table) -> &str
+    ensures exact { result.now ≡ alias_of table.now }
+{
+    match &table.alias {
+        Some(alias) => alias.text(),
+        None => table.collection.text(),
+    }
+}

