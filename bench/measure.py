@@ -3,6 +3,7 @@
 
     bench/measure.py            all sizes, three runs each, the best time
     bench/measure.py --quick    small sizes, one run each
+    bench/measure.py --beside PROGRAM   another build of the program too, in turns with this one
 
 The scripts are made when this runs, in a temporary folder, and are gone afterwards.
 """
@@ -63,11 +64,11 @@ def make(path, kind, first, second):
     subprocess.run([sys.executable, os.path.abspath(__file__), "--make", path, kind, str(first), str(second)], check=True)
 
 
-def run(path):
+def run(program, path):
     """Seconds and peak MiB of one run; the output is thrown away."""
     with open(path, "rb") as source:
         start = time.perf_counter()
-        child = subprocess.Popen([PROGRAM], stdin=source, stdout=subprocess.DEVNULL)
+        child = subprocess.Popen([program], stdin=source, stdout=subprocess.DEVNULL)
         _, status, usage = os.wait4(child.pid, 0)
         seconds = time.perf_counter() - start
     child.returncode = os.waitstatus_to_exitcode(status)
@@ -79,6 +80,7 @@ def run(path):
 def main():
     words = argparse.ArgumentParser()
     words.add_argument("--quick", action="store_true")
+    words.add_argument("--beside", metavar="PROGRAM", help="another build, timed in turns with this one")
     words.add_argument("--make", nargs=4, help=argparse.SUPPRESS)
     given = words.parse_args()
     if given.make:
@@ -96,17 +98,21 @@ def main():
         cases.append(("%d MiB, loads of one document" % size, "size", size * MIB, 1))
     for lines in [8192] if quick else [16384, 32768, 65536]:
         cases.append(("%d lines, one collection" % lines, "lines", lines, 1))
-        cases.append(("%d lines, a collection each" % lines, "lines", lines, lines))
-    print("| script | bytes | seconds | peak MiB | peak over script |")
-    print("|---|---|---|---|---|")
+        cases.append(("%d lines, 256 collections" % lines, "lines", lines, 256))
+    programs = [PROGRAM] + ([given.beside] if given.beside else [])
+    print("| script | bytes |" + " seconds | peak MiB | peak over script |" * len(programs))
+    print("|---|---|" + "---|---|---|" * len(programs))
     with tempfile.TemporaryDirectory() as folder:
         path = os.path.join(folder, "script")
         for name, kind, first, second in cases:
             make(path, kind, first, second)
-            results = [run(path) for _ in range(1 if quick else 3)]
-            seconds, peak = min(r[0] for r in results), max(r[1] for r in results)
             size = os.path.getsize(path)
-            print("| %s | %d | %.3f | %.1f | %.1f |" % (name, size, seconds, peak, peak * MIB / size), flush=True)
+            turns = [[run(program, path) for program in programs] for _ in range(1 if quick else 3)]
+            row = "| %s | %d |" % (name, size)
+            for results in zip(*turns):
+                seconds, peak = min(r[0] for r in results), max(r[1] for r in results)
+                row += " %.3f | %.1f | %.1f |" % (seconds, peak, peak * MIB / size)
+            print(row, flush=True)
 
 
 if __name__ == "__main__":
