@@ -1,0 +1,10 @@
+use Rattle.std.proofs.Common.{arith}
+use Rattle.sql_syntax.specs.declared.mark.Mark.TheVariants as marks
+use Rattle.sql_syntax.specs.Printing.{reference_printed}
+use Rattle.sql_syntax.proofs.PrintLists.{list_step}
+use Rattle.sql_syntax.proofs.print_queries.write_references.Goals as goal
+
+pub loop-i-preserved : goal.loop-i-preserved
+loop-i-preserved c =
+    list_step reference_printed marks.Comma c.args.out.now.items c.loop-i.out.items c.write_mark_before.new.out.items c.write_reference.new.out.items c.args.columns.now c.loop-i.i c.index-columns-i.result (omega arith) c.index-columns-i.is
+    c.loop-i.invariant c.in_ok-write_mark_before.ensures.ok c.in_ok-write_reference.ensures.ok

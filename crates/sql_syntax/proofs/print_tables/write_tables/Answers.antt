@@ -1,0 +1,10 @@
+use Rattle.std.proofs.Common.{arith}
+use Rattle.sql_syntax.specs.declared.mark.Mark.TheVariants as marks
+use Rattle.sql_syntax.specs.PrintingQuery.{table_printed}
+use Rattle.sql_syntax.proofs.PrintLists.{list_step}
+use Rattle.sql_syntax.proofs.print_tables.write_tables.Goals as goal
+
+pub loop-i-preserved : goal.loop-i-preserved
+loop-i-preserved c =
+    list_step table_printed marks.Comma c.args.out.now.items c.loop-i.out.items c.write_mark_before.new.out.items c.write_table.new.out.items c.args.tables.now c.loop-i.i c.index-tables-i.result (omega arith) c.index-tables-i.is
+    c.loop-i.invariant c.in_ok-write_mark_before.ensures.ok c.in_ok-write_table.ensures.ok
