@@ -1,5 +1,5 @@
 -- A binary search over the numbers of a table.
-use Rattle.std.proofs.Common.{◌≡◌, ℕ, zero, suc, ◌+◌, ◌*◌, ◌-◌, ◌^◌, ◌<◌, ◌≤◌, List, ap, arith}
+use Rattle.std.proofs.Common.{◌≡◌, ℕ, zero, suc, ◌+◌, ◌*◌, ◌-◌, ◌^◌, ◌<◌, ◌≤◌, List, ap, subst, arith}
 use Rattle.std.proofs.Math.Nat.{mul-le-mul_right, mul_assoc, pow-suc}
 use Rattle.reservoir_record.specs.Words.{number_at, HasNumbers}
 
@@ -25,6 +25,16 @@ pub cost_more : (before now after w n : ℕ) → before ≤ now → after ≡ no
 cost_more before now after w n le e some left =
     let one : 1 * 2 ^ (now - before) ≤ w * 2 ^ (now - before) = mul-le-mul_right (2 ^ (now - before)) some in
     rw (e, doubles before now le) (omega arith)
+
+pub needed_more : (before now after w v n : ℕ) → before ≤ now → after ≡ now + 1 → w ≤ 2 * v + 2 → n + 2 ≤ (w + 2) * 2 ^ (now - before) → n + 2 ≤ (v + 2) * 2 ^ (after - before)
+needed_more before now after w v n le e half needed =
+    let twice : w + 2 ≤ (v + 2) * 2 = omega arith in
+    let more : (w + 2) * 2 ^ (now - before) ≤ (v + 2) * 2 * 2 ^ (now - before) = mul-le-mul_right (2 ^ (now - before)) twice in
+    rw (e, doubles before now le) (omega (arith, mul_assoc (v + 2) 2 (2 ^ (now - before))))
+
+-- where nothing is left
+pub needed_all : (low high probes n : ℕ) → high ≤ low → n + 2 ≤ (high - low + 2) * 2 ^ probes → n + 2 ≤ 2 * 2 ^ probes
+needed_all low high probes n none needed = let two : high - low + 2 ≡ 2 = omega arith in subst (λ (m : ℕ). n + 2 ≤ m * 2 ^ probes) two needed
 
 pub left_more : (before now after w v n : ℕ) → before ≤ now → after ≡ now + 1 → 2 * v ≤ w → w * 2 ^ (now - before) ≤ n → v * 2 ^ (after - before) ≤ n
 left_more before now after w v n le e half left =

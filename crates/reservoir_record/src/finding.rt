@@ -23,6 +23,8 @@ pub(crate) fn place<L: Ledger>(
     ensures missing { IfErr result (λ k. FitsAt numbers.now.bytes.now count id k) }
     ensures cost { 2 ^ (steps.new - steps.old) ≤ 2 * count + 1 }
     ensures counted { steps.old ≤ steps.new }
+    ensures probed { 0 < count → steps.old < steps.new }
+    ensures least { IfErr result (λ _. count + 2 ≤ 2 * 2 ^ (steps.new - steps.old)) }
 {
     let mut low = 0;
     let mut high = count;

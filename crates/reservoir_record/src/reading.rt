@@ -1,4 +1,4 @@
-ghost use Rattle.std.specs.Prelude.{ℕ, ◌≡◌, ◌+◌, ◌-◌, ◌*◌, ◌≤◌, ◌<◌, ◌^◌, List, Some, length, slice_get, option_copied, IfOk, IfErr};
+ghost use Rattle.std.specs.Prelude.{ℕ, ◌≡◌, ◌+◌, ◌-◌, ◌*◌, ◌≤◌, ◌<◌, ◌^◌, List, Some, None, length, slice_get, option_copied, IfOk, IfErr};
 ghost use Rattle.reservoir_record.specs.Spelling.{Spells, IsRecord};
 ghost use Rattle.reservoir_record.specs.Words.{IsTable, value_at};
 ghost use Rattle.reservoir_record.specs.Finding.{value_of, StandsAt, FitsAt};
@@ -36,6 +36,8 @@ pub fn find<'a, L: Ledger>(bytes: &'a [u8], id: u32, steps: &mut Steps<L>) -> Op
     ensures exact { (fields : List Field) → Spells fields bytes.now → option_copied result ≡ value_of id fields }
     ensures cost { (fields : List Field) → Spells fields bytes.now → 2 ^ (steps.new - steps.old) ≤ 2 * length fields + 1 }
     ensures counted { steps.old ≤ steps.new }
+    ensures probed { (fields : List Field) → Spells fields bytes.now → 0 < length fields → steps.old < steps.new }
+    ensures least { (fields : List Field) → Spells fields bytes.now → result ≡ None → length fields + 2 ≤ 2 * 2 ^ (steps.new - steps.old) }
 {
     let count = count(bytes) as usize;
     match place(&Numbers::new(bytes), count, id, steps) {

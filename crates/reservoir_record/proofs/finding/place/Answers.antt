@@ -1,5 +1,5 @@
 use Rattle.std.proofs.Common.{ℕ, ◌+◌, ◌-◌, ◌/◌, arith}
-use Rattle.reservoir_record.proofs.Probing.{rises, cost_more, left_more}
+use Rattle.reservoir_record.proofs.Probing.{rises, cost_more, left_more, needed_more, needed_all}
 use Rattle.reservoir_record.proofs.finding.place.Goals as goal
 
 pub loop-low-preserved-in-Less : goal.loop-low-preserved-in-Less
@@ -14,6 +14,8 @@ loop-low-preserved-in-Less g c =
       counted = omega arith;
       cost = cost_more c.args.steps.now c.loop-low.steps c.compare.new.steps (c.loop-low.high - c.loop-low.low) c.args.count i.counted c.compare.ensures.counted (omega arith) i.left;
       left = left_more c.args.steps.now c.loop-low.steps c.compare.new.steps (c.loop-low.high - c.loop-low.low) (c.loop-low.high - (c.loop-low.low + (c.loop-low.high - c.loop-low.low) / 2 + 1)) c.args.count i.counted c.compare.ensures.counted (omega arith) i.left;
+      probed = λ _. omega arith;
+      needed = needed_more c.args.steps.now c.loop-low.steps c.compare.new.steps (c.loop-low.high - c.loop-low.low) (c.loop-low.high - (c.loop-low.low + (c.loop-low.high - c.loop-low.low) / 2 + 1)) c.args.count i.counted c.compare.ensures.counted (omega arith) i.needed;
     }
 
 pub returns-in-Equal-clause-cost : goal.returns-in-Equal-clause-cost
@@ -32,4 +34,9 @@ loop-low-preserved g c =
       counted = omega arith;
       cost = cost_more c.args.steps.now c.loop-low.steps c.compare.new.steps (c.loop-low.high - c.loop-low.low) c.args.count i.counted c.compare.ensures.counted (omega arith) i.left;
       left = left_more c.args.steps.now c.loop-low.steps c.compare.new.steps (c.loop-low.high - c.loop-low.low) (c.loop-low.low + (c.loop-low.high - c.loop-low.low) / 2 - c.loop-low.low) c.args.count i.counted c.compare.ensures.counted (omega arith) i.left;
+      probed = λ _. omega arith;
+      needed = needed_more c.args.steps.now c.loop-low.steps c.compare.new.steps (c.loop-low.high - c.loop-low.low) (c.loop-low.low + (c.loop-low.high - c.loop-low.low) / 2 - c.loop-low.low) c.args.count i.counted c.compare.ensures.counted (omega arith) i.needed;
     }
+
+pub returns-clause-least : goal.returns-clause-least
+returns-clause-least g c = let i = c.loop-low.invariant in needed_all c.loop-low.low c.loop-low.high (c.loop-low.steps - c.args.steps.now) c.args.count (omega arith) i.needed

@@ -11,6 +11,8 @@ pub record Narrowed (bytes : List ℕ) (count id low high before now : ℕ) : Ty
   pub counted : before ≤ now
   pub cost : 2 ^ (now - before) ≤ 2 * count + 1
   pub left : (high - low) * 2 ^ (now - before) ≤ count
+  pub probed : high - low < count → before < now
+  pub needed : count + 2 ≤ (high - low + 2) * 2 ^ (now - before)
 
 abbrev pub invariant-loop-low : goal.invariant-loop-low
 invariant-loop-low g l = Narrowed l.numbers.bytes.now l.count l.id l.low l.high l.fn.steps l.steps

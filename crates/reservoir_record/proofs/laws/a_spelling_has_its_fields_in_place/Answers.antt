@@ -1,4 +1,4 @@
-use Rattle.std.proofs.Common.{◌≡◌, ◌∙◌, ap, arith, ℕ, length}
+use Rattle.std.proofs.Common.{◌∙◌, ap, arith, ℕ, length}
 use Rattle.reservoir_record.specs.Walking.{fields_from}
 use Rattle.reservoir_record.proofs.Checked.{count_is}
 use Rattle.reservoir_record.proofs.Found.{from_here}
