@@ -2,6 +2,7 @@
 use Rattle.std.proofs.Common.{◌≡◌, ◌≢◌, ℕ, zero, suc, ◌<◌, ◌≤◌, ◌⊎◌, inl, inr, false, true≢false, List, [], ◌∷◌, ◌++◌, length, map, set, Option, Some, None, option_map, slice_get, position, refl, sym, ap, subst, ◌∙◌, arith, length-append, length-set, Result, Ok, Err, OnOk}
 use Rattle.std.specs.Result.{is_err}
 use Rattle.std.specs.Str.{bytes_eq}
+use Rattle.std.proofs.lemmas.Bool.{cases_lt}
 use Rattle.std.proofs.lemmas.List.{map-append, length-map}
 use Rattle.std.proofs.lemmas.Option.{slice_get_within}
 use Rattle.std.proofs.lemmas.Slice.Eq.{bytes_eq-Decides}
@@ -11,10 +12,11 @@ use Rattle.attr_catalog.specs.declared.kinds.Kinds.{Kinds}
 use Rattle.attr_catalog.specs.declared.stored.Stored.{Stored}
 use Rattle.attr_catalog.specs.Attribute.{fresh}
 use Rattle.attr_catalog.specs.Catalog.{Attributes, number, id_of, kinds_of, IsOnce, most_attributes}
-use Rattle.attr_catalog.specs.Inside.{Named, AreApart, name_at, shown, all_shown, fresh_at, with_id, no_kinds, BelongTogether}
+use Rattle.attr_catalog.specs.Inside.{Named, AreApart, name_at, shown, all_shown, fresh_at, with_id, no_kinds, IsUsed, BelongTogether}
 use Rattle.attr_catalog.proofs.Positions.{position-first, first-none, first-some, get-front, get-last, get-push, get-set, get-within}
 use Rattle.attr_catalog.proofs.Kept.{name-at, kinds-absent}
 use Rattle.attr_catalog.proofs.OneMore.{kinds-push, kinds-other, IsOnce-push}
+use Rattle.attr_catalog.proofs.Used.{used-push, used-new}
 
 pub map-same : {X Y : Type 0} (f g : X → Y) (xs : List X) → ((i : ℕ) (x : X) → slice_get xs i ≡ Some x → f x ≡ g x) → map f xs ≡ map g xs
 map-same f g [] h = refl
@@ -69,10 +71,12 @@ module _ (names : Named) (stored : List Stored) (together : BelongTogether names
         map-append (shown grown) stored (fresh_at place of ∷ [])
         ∙ (λ i. map-same (shown grown) (shown names) stored (λ k s at j. record { name = stays s.name (together.named k s at) j; kind = s.kind; count = s.count; home = s.home; mark = s.mark }) i ++ fresh (there i) of ∷ [])
 
-    pub grown-together : length names ≤ length grown → place < length grown → ((p : ℕ) (n : List ℕ × Kinds) → slice_get grown p ≡ Some n → n.1 ≡ kinds_of n.0 after) → AreApart grown → BelongTogether grown (stored ++ fresh_at place of ∷ [])
-    grown-together more within kinds apart = record {
+    pub grown-together : length names ≤ length grown → place < length grown → ((p : ℕ) (n : List ℕ × Kinds) → slice_get grown p ≡ Some n → n.1 ≡ kinds_of n.0 after) → AreApart grown
+        → ((p : ℕ) → p < length grown → IsUsed (stored ++ fresh_at place of ∷ []) p) → BelongTogether grown (stored ++ fresh_at place of ∷ [])
+    grown-together more within kinds apart used = record {
       named = λ k s at. elim (get-push stored (fresh_at place of) k s at) [ inl a ↦ let h : s.name < length names = together.named k s a in omega arith | inr b ↦ let e : s.name ≡ place = ap (λ x. x.name) b.1 in omega arith ];
       kinds = λ p n at. kinds p n at ∙ ap (kinds_of n.0) (sym grown-shown);
+      used = used;
       apart = apart;
       once = subst IsOnce (sym grown-shown) (IsOnce-push (all_shown names stored) (fresh name of) together.once new);
       few = omega (arith, length-append stored (fresh_at place of ∷ []));
@@ -115,6 +119,7 @@ module _ (names : Named) (stored : List Stored) (together : BelongTogether names
         grown-together known_names place (λ q h. name_at-set names place more q) (name_at-set names place more place ∙ named_there) (let e : length known_names ≡ length names = length-set names place (name_at names place, more) in omega arith)
         (let e : length known_names ≡ length names = length-set names place (name_at names place, more) in let h : place < length names = slice_get_within names place at_name.0 at_name.1 in omega arith)
         (λ p n at. kinds_by p n (get-set names place (name_at names place, more) p n at)) (apart-set names place more together.apart)
+        (λ p h. let e : length known_names ≡ length names = length-set names place (name_at names place, more) in used-push stored (fresh_at place of) p (together.used p (omega arith)))
 
   -- at a new name
   module _ (missing : position (λ n. bytes_eq name n.0) names ≡ None) where
@@ -141,6 +146,15 @@ module _ (names : Named) (stored : List Stored) (together : BelongTogether names
     kinds_more p n (inl a) = together.kinds p n a ∙ sym (kinds-other n.0 (all_shown names stored) (fresh name of) (λ e. absent names name missing p n a (sym e)))
     kinds_more p n (inr b) = ap (λ m. m.1) b.1 ∙ alone_is ∙ ap (λ t. kinds_of t after) (sym (ap (λ m. m.0) b.1))
 
+    used_by : (p : ℕ) → p < length more_names → (p < length names) ⊎ (length names ≤ p) → IsUsed (stored ++ fresh_at (length names) of ∷ []) p
+    used_by p h (inl l) = used-push stored (fresh_at (length names) of) p (together.used p l)
+    used_by p h (inr g) =
+        let last : length names ≡ p = omega (arith, length-append names ((name, alone) ∷ [])) in
+        subst (IsUsed (stored ++ fresh_at (length names) of ∷ [])) last (used-new stored (fresh_at (length names) of) together.named)
+
+    used_more : (p : ℕ) → p < length more_names → IsUsed (stored ++ fresh_at (length names) of ∷ []) p
+    used_more p h = used_by p h (cases_lt p (length names))
+
     pub new-shown : all_shown more_names (stored ++ fresh_at (length names) of ∷ []) ≡ after
     new-shown = grown-shown more_names (length names) stays_more last_is
 
@@ -148,6 +162,7 @@ module _ (names : Named) (stored : List Stored) (together : BelongTogether names
     new-together =
         grown-together more_names (length names) stays_more last_is (omega (arith, length-append names ((name, alone) ∷ []))) (omega (arith, length-append names ((name, alone) ∷ [])))
         (λ p n at. kinds_more p n (get-push names (name, alone) p n at)) (apart-push names name alone together.apart (absent names name missing))
+        used_more
 
 -- ---- what a call is left with
 

@@ -14,6 +14,7 @@ use Rattle.attr_catalog.specs.Attribute.{Attribute}
 use Rattle.attr_catalog.specs.Catalog.{Attributes, is_of, number, id_of, kinds_of, IsOnce, changed}
 use Rattle.attr_catalog.specs.Inside.{Named, name_at, shown, all_shown, ShowsAs, no_kinds, BelongTogether}
 use Rattle.attr_catalog.proofs.Positions.{first, position-first, first-map, first-none, none-first, first-some, get-set, get-within}
+use Rattle.attr_catalog.proofs.Used.{used-changed}
 
 -- ---- names
 
@@ -137,6 +138,7 @@ module _ (names : Named) (stored : List Stored) (together : BelongTogether names
   together-changed = record {
     named = λ k x h. elim (get-set stored i t k x h) [ inl a ↦ let e : x.name ≡ s.name = ap (λ y. y.name) a.1 ∙ as_shown.1 in subst (λ n. n < length names) (sym e) (together.named i s at) | inr b ↦ together.named k x b.1 ];
     kinds = λ k n h. together.kinds k n h ∙ sym (kinds_of-pairs n.0 (all_shown names stored) (all_shown names (set stored i t)) pairs_stay);
+    used = λ p h. used-changed stored i s t at as_shown.1 p (together.used p h);
     apart = together.apart;
     once = IsOnce-pairs (all_shown names stored) (all_shown names (set stored i t)) pairs_stay together.once;
     few = rw length-set together.few;

@@ -1,5 +1,5 @@
 -- How a catalog is kept: names once each with the numbers of their kinds, and attributes that point to their names.
-use Rattle.std.specs.Prelude.{◌≡◌, ◌<◌, ◌≤◌, ℕ, List, [], ◌∷◌, ◌++◌, length, map, Option, Some, None, slice_get, slice_set, ◌⊎◌}
+use Rattle.std.specs.Prelude.{◌≡◌, ◌≢◌, ◌<◌, ◌≤◌, ℕ, List, [], ◌∷◌, ◌++◌, length, map, Option, Some, None, slice_get, slice_set, ◌⊎◌}
 use Rattle.std.specs.Option.{option_map_or}
 use Rattle.doc_values.specs.declared.attr_id.AttrId.{AttrId}
 use Rattle.doc_values.specs.declared.kind.Kind as kind
@@ -53,14 +53,25 @@ with_id kind.TheVariants.Object id kinds = record kinds { object_id = id }
 abbrev pub no_kinds : Kinds
 no_kinds = record { bool_id = None; int_id = None; text_id = None; array_id = None; object_id = None }
 
--- A kind of the name at a place is forgotten: its number goes, or the whole name where it was the last name and had no other number.
+-- A kind of the name at a place is forgotten: its number goes, and with the last number the name, which stood last.
 abbrev pub Forgets : ℕ → kind.Kind → Named → Named → Type 0
-Forgets place of before after = (n : List ℕ × Kinds) × (slice_get before place ≡ Some n) × ((after ≡ slice_set before place (name_at before place, with_id of None n.1)) ⊎ ((with_id of None n.1 ≡ no_kinds) × (before ≡ after ++ n ∷ [])))
+Forgets place of before after =
+    (n : List ℕ × Kinds) × (slice_get before place ≡ Some n)
+    × (((with_id of None n.1 ≢ no_kinds) × (after ≡ slice_set before place (name_at before place, with_id of None n.1))) ⊎ ((with_id of None n.1 ≡ no_kinds) × (before ≡ after ++ n ∷ [])))
 
--- Names and attributes belong together: each attribute has its name, each name the numbers of its kinds, and no pair stands twice.
+-- A name has a first attribute, and the attributes before that have earlier names.
+pub record IsUsed (stored : List Stored) (place : ℕ) : Type 0 where
+  pub first : ℕ
+  pub attribute : Stored
+  pub there : slice_get stored first ≡ Some attribute
+  pub named : attribute.name ≡ place
+  pub earlier : (i : ℕ) (s : Stored) → i < first → slice_get stored i ≡ Some s → s.name < place
+
+-- Names and attributes belong together: each attribute has its name, each name its attributes and the numbers of its kinds, and no pair stands twice.
 pub record BelongTogether (names : Named) (stored : List Stored) : Type 0 where
   pub named : (place : ℕ) (s : Stored) → slice_get stored place ≡ Some s → s.name < length names
   pub kinds : (place : ℕ) (n : List ℕ × Kinds) → slice_get names place ≡ Some n → n.1 ≡ kinds_of n.0 (all_shown names stored)
+  pub used : (place : ℕ) → place < length names → IsUsed stored place
   pub apart : AreApart names
   pub once : IsOnce (all_shown names stored)
   pub few : length stored ≤ most_attributes

@@ -49,10 +49,16 @@ impl Catalog {
     /// How many attributes there are.
     pub fn len(&self) -> u32
         ensures exact { result ≡ length self.now }
+    {
+        self.stored.len() as u32
+    }
+
+    /// Law: each pair stands once, and there are no more attributes than there may be.
+    pub fn keeps_the_rules(&self)
         ensures once { IsOnce self.now }
         ensures few { length self.now ≤ most_attributes }
     {
-        self.stored.len() as u32
+        let _len = self.stored.len();
     }
 
     /// The number of the attribute of a name and a kind.

@@ -23,7 +23,9 @@ impl Model for Names {
 }
 
 impl Names {
-    ghost use Rattle.attr_catalog.specs.Inside.{AreApart, HasFront, Forgets, name_at};
+    ghost use Rattle.std.specs.Prelude.{ℕ, List};
+    ghost use Rattle.attr_catalog.specs.declared.kinds.Kinds.{Kinds as KindsOf};
+    ghost use Rattle.attr_catalog.specs.Inside.{AreApart, HasFront, Forgets, name_at, no_kinds, with_id};
 
     pub(crate) fn new(alloc: Global) -> Names
         ensures exact { result ≡ [] }
@@ -84,14 +86,14 @@ impl Names {
         Ok(())
     }
 
-    /// Forgets a kind of the name at a place, and the name where it is the last one and has no other kind.
+    /// Forgets a kind of the name at a place, and the name where it has no other kind. It is then the last one.
     pub(crate) fn forget(&mut self, place: usize, kind: Kind)
-        requires { place < length self.old }
+        requires within { place < length self.old }
+        requires last { (n : List ℕ × KindsOf) → slice_get self.old place ≡ Some n → with_id kind None n.1 ≡ no_kinds → place + 1 ≡ length self.old }
         ensures exact { Forgets place kind self.old self.new }
     {
         let kinds = self.kinds(place).with(kind, None);
-        let last = self.len() - 1;
-        if kinds == Kinds::none() && place == last {
+        if kinds == Kinds::none() {
             self.pop();
         } else {
             self.set(place, kinds);
