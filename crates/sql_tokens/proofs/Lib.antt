@@ -9,3 +9,4 @@ pub mod Replaced
 pub mod Cuts
 pub mod Numbers
 pub mod Longest
+pub mod EndCuts

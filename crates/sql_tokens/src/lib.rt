@@ -6,6 +6,7 @@
 #![tactic(auto)]
 
 mod bytes;
+mod ends;
 mod laws;
 mod lengths;
 mod lexeme;
@@ -17,6 +18,7 @@ mod token_fault;
 mod token_sort;
 mod values;
 
+pub use ends::{is_word, split_word, trim};
 pub use laws::{
     a_text_has_one_list_of_tokens, a_value_is_written_between_quotes, each_token_stands,
     no_longer_token_stands, the_tokens_are_those_found,
