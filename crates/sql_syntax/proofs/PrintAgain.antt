@@ -1,9 +1,9 @@
 -- What is printed of an expression spells it, within as many levels.
 use Rattle.std.proofs.Common.{ℕ, zero, suc, List}
 use Rattle.sql_tree.specs.declared.term.Term.{Term}
-use Rattle.sql_syntax.specs.declared.terminal.Terminal.{Terminal}
+use Rattle.sql_grammar.specs.declared.terminal.Terminal.{Terminal}
 use Rattle.sql_syntax.specs.declared.print_tightness.Tightness.TheVariants as tight
-use Rattle.sql_syntax.specs.Expression.{Inside, Expression, most_levels}
+use Rattle.sql_grammar.specs.Expression.{Inside, Expression, most_levels}
 use Rattle.sql_syntax.specs.PrintingTerm.{printed}
 use Rattle.sql_syntax.proofs.PrintPlaces.{widen}
 use Rattle.sql_syntax.proofs.PrintLevels.{ruled_inside}

@@ -5,8 +5,8 @@ use Rattle.std.proofs.lemmas.List.{take_at, drop_at}
 use Rattle.sql_tokens.specs.declared.token.Token.{Token}
 use Rattle.sql_tokens.specs.Forms.{IsToken, goes_on}
 use Rattle.sql_tokens.specs.Tokens.{most_bytes, IsSpace, BeginsOutside, written, Stands, HasFrom, none, next, AreTokens}
-use Rattle.sql_syntax.specs.declared.terminal.Terminal.{Terminal}
-use Rattle.sql_syntax.specs.Words.{terminal_of, terminals_of}
+use Rattle.sql_grammar.specs.declared.terminal.Terminal.{Terminal}
+use Rattle.sql_grammar.specs.Words.{terminal_of, terminals_of}
 use Rattle.sql_syntax.specs.PrintingText.{terminal_text, spaced, text_printed}
 use Rattle.sql_syntax.proofs.PrintParts.{Each}
 use Rattle.sql_syntax.proofs.PrintTokens.{Quoting, IsWritable, sort_of, IsItsToken, its_token}

@@ -2,19 +2,18 @@
 use Rattle.std.proofs.Common.{◌≡◌, List, [], ◌∷◌, ◌++◌, map, true, false, refl, subst, ap, ◌∙◌}
 use Rattle.sql_tree.specs.declared.term.Term.{Term}
 use Rattle.sql_tree.specs.declared.term.Term.TheVariants as term
-use Rattle.sql_syntax.specs.declared.mark.Mark.TheVariants as marks
-use Rattle.sql_syntax.specs.declared.terminal.Terminal.{Terminal}
-use Rattle.sql_syntax.specs.declared.terminal.Terminal.TheVariants as terminal
+use Rattle.sql_grammar.specs.declared.mark.Mark.TheVariants as marks
+use Rattle.sql_grammar.specs.declared.terminal.Terminal.{Terminal}
+use Rattle.sql_grammar.specs.declared.terminal.Terminal.TheVariants as terminal
 use Rattle.sql_syntax.specs.declared.print_tightness.Tightness.{Tightness}
 use Rattle.sql_syntax.specs.declared.print_tightness.Tightness.TheVariants as tight
-use Rattle.sql_syntax.specs.Nodes.{addend}
-use Rattle.sql_syntax.specs.Languages.{Language, none, more, chain}
-use Rattle.sql_syntax.specs.Expression.{Place, expr, neg, unary, column, Column, Primary, numeral, text, truth, falsehood, null, reference, wanted, brackets, Unary, minus, primary, Product, Sum, Behind, nothing, compare, is_null, among, between, like, Test, Neg, Conj, Expr, Level}
+use Rattle.sql_grammar.specs.Nodes.{addend}
+use Rattle.sql_grammar.specs.Languages.{Language, none, more, chain}
+use Rattle.sql_grammar.specs.Expression.{Place, expr, neg, unary, column, Column, Primary, numeral, text, truth, falsehood, null, reference, wanted, brackets, Unary, minus, primary, Product, Sum, Behind, nothing, compare, is_null, among, between, like, Test, Neg, Conj, Expr, Level}
 use Rattle.sql_syntax.specs.Printing.{made_by, looser, bracketed, each_behind, joined_by, addends_printed, denial_printed, mark_of, kind_word, reference_printed}
 use Rattle.sql_syntax.specs.PrintingTerm.{printed, at_places, member_printed}
-use Rattle.sql_syntax.proofs.Marks.{only-self}
 use Rattle.sql_syntax.proofs.PrintTerms.{all_at_places, number_printed, text_printed, bool_printed, null_printed, column_printed, wanted_printed, or_printed, and_printed, not_printed, compare_printed, is_null_printed, among_printed, between_printed, like_printed, sum_term_printed, product_printed, minus_printed}
-use Rattle.sql_syntax.proofs.PrintParts.{Each, each_append, each_front, each_back, Written, behind_again, listed_again, addends_again}
+use Rattle.sql_syntax.proofs.PrintParts.{Each, each_append, each_front, each_back, Written, only-self, behind_again, listed_again, addends_again}
 use Rattle.sql_syntax.proofs.PrintPlaced.{Prints, Improves, asks, as_it_stands, placed}
 use Rattle.sql_syntax.proofs.PrintLeaves.{Fitting, kind_again, comparison_again, column_again, denial_again}
 

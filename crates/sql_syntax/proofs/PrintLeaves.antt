@@ -7,14 +7,14 @@ use Rattle.doc_values.specs.declared.compare_op.CompareOp.TheVariants as ops
 use Rattle.sql_tree.specs.declared.reference.Ref.{Ref}
 use Rattle.sql_tree.specs.declared.term.Term.{Term}
 use Rattle.sql_tree.specs.declared.term.Term.TheVariants as term
-use Rattle.sql_syntax.specs.declared.mark.Mark.{Mark}
-use Rattle.sql_syntax.specs.declared.mark.Mark.TheVariants as marks
-use Rattle.sql_syntax.specs.declared.terminal.Terminal.{Terminal}
-use Rattle.sql_syntax.specs.declared.terminal.Terminal.TheVariants as terminal
+use Rattle.sql_grammar.specs.declared.mark.Mark.{Mark}
+use Rattle.sql_grammar.specs.declared.mark.Mark.TheVariants as marks
+use Rattle.sql_grammar.specs.declared.terminal.Terminal.{Terminal}
+use Rattle.sql_grammar.specs.declared.terminal.Terminal.TheVariants as terminal
 use Rattle.sql_syntax.specs.declared.print_tightness.Tightness.TheVariants as tight
-use Rattle.sql_syntax.specs.Terminals.{is_name, is_keyword, kind_of, comparison_of}
-use Rattle.sql_syntax.specs.Languages.{Denial, affirmed, denied}
-use Rattle.sql_syntax.specs.Expression.{Name, word, quoted, Reference, bare, qualified, Column, column}
+use Rattle.sql_grammar.specs.Terminals.{is_name, is_keyword, kind_of, comparison_of}
+use Rattle.sql_grammar.specs.Languages.{Denial, affirmed, denied}
+use Rattle.sql_grammar.specs.Expression.{Name, word, quoted, Reference, bare, qualified, Column, column}
 use Rattle.sql_syntax.specs.Printing.{reference_printed, kind_word, mark_of, denial_printed}
 use Rattle.sql_syntax.specs.PrintingTerm.{printed}
 use Rattle.sql_syntax.proofs.PrintTerms.{column_printed}

@@ -1,13 +1,13 @@
 -- What may stand at a level may stand where more levels may be opened.
 use Rattle.std.proofs.Common.{ℕ, zero, suc, List, []}
 use Rattle.sql_tree.specs.declared.term.Term.{Term}
-use Rattle.sql_syntax.specs.declared.mark.Mark.{Mark}
-use Rattle.sql_syntax.specs.declared.terminal.Terminal.{Terminal}
+use Rattle.sql_grammar.specs.declared.mark.Mark.{Mark}
+use Rattle.sql_grammar.specs.declared.terminal.Terminal.{Terminal}
 use Rattle.std.specs.Prelude.{Option}
 use Rattle.sql_syntax.specs.declared.print_tightness.Tightness.{Tightness}
 use Rattle.sql_syntax.specs.declared.print_tightness.Tightness.TheVariants as tight
-use Rattle.sql_syntax.specs.Languages.{Language, Members, none, more, Chain, chain}
-use Rattle.sql_syntax.specs.Expression.{Place, expr, neg, unary, column, Primary, numeral, text, truth, falsehood, null, reference, wanted, brackets, Unary, minus, primary, Product, Sum, Behind, nothing, compare, is_null, among, between, like, Test, Neg, Conj, Expr, Level, Inside}
+use Rattle.sql_grammar.specs.Languages.{Language, Members, none, more, Chain, chain}
+use Rattle.sql_grammar.specs.Expression.{Place, expr, neg, unary, column, Primary, numeral, text, truth, falsehood, null, reference, wanted, brackets, Unary, minus, primary, Product, Sum, Behind, nothing, compare, is_null, among, between, like, Test, Neg, Conj, Expr, Level, Inside}
 use Rattle.sql_syntax.proofs.PrintPlaces.{Ruled}
 
 module _ {S A M : Type 0} {joins : Mark → Option S} {make : S → A → M} {Part Also : Language A} (raise : (x : A) (a : List Terminal) → Part x a → Also x a) where

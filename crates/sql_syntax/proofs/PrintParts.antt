@@ -1,18 +1,19 @@
 -- Lists of terminals that all fit, and chains and lists whose parts are written anew.
 use Rattle.std.proofs.Common.{◌≡◌, List, [], ◌∷◌, ◌++◌, map, Bool, true, false, Option, Some, refl, if◌then◌else◌}
+use denote.Enum.Bare.{true_same}
 use Rattle.sql_tree.specs.declared.addend.Addend.{Addend}
 use Rattle.sql_tree.specs.declared.term.Term.{Term}
-use Rattle.sql_syntax.specs.declared.mark.Mark.{Mark}
-use Rattle.sql_syntax.specs.declared.mark.Mark.TheVariants as marks
-use Rattle.sql_syntax.specs.declared.terminal.Terminal.{Terminal}
-use Rattle.sql_syntax.specs.declared.terminal.Terminal.TheVariants as terminal
+use Rattle.sql_grammar.specs.contracts.mark.Mark.{the_type}
+use Rattle.sql_grammar.specs.declared.mark.Mark.{Mark}
+use Rattle.sql_grammar.specs.declared.mark.Mark.TheVariants as marks
+use Rattle.sql_grammar.specs.declared.terminal.Terminal.{Terminal}
+use Rattle.sql_grammar.specs.declared.terminal.Terminal.TheVariants as terminal
 use Rattle.sql_syntax.specs.declared.print_tightness.Tightness.TheVariants as tight
-use Rattle.sql_syntax.specs.Terminals.{sign_of}
-use Rattle.sql_syntax.specs.Nodes.{addend}
-use Rattle.sql_syntax.specs.Languages.{Language, Members, none, more, chain, Listed, plain}
+use Rattle.sql_grammar.specs.Terminals.{only, same_mark, sign_of}
+use Rattle.sql_grammar.specs.Nodes.{addend}
+use Rattle.sql_grammar.specs.Languages.{Language, Members, none, more, chain, Listed, plain}
 use Rattle.sql_syntax.specs.Printing.{each_behind, joined_by, addends_printed}
 use Rattle.sql_syntax.specs.PrintingTerm.{printed, member_printed}
-use Rattle.sql_syntax.proofs.Marks.{only-self}
 
 -- Every terminal fits.
 abbrev pub Each : (Terminal → Type 0) → List Terminal → Type 0
@@ -40,6 +41,11 @@ pub record Written {A : Type 0} (Fits : Terminal → Type 0) (Spelled : Language
 -- What a language has can be written anew.
 abbrev pub WritesAgain : {A : Type 0} → (Terminal → Type 0) → Language A → (A → List Terminal) → Type 0
 WritesAgain {A} Fits Part write = (x : A) (a : List Terminal) → Part x a → Each Fits a → Written Fits Part x (write x)
+
+-- A mark joins by itself.
+pub only-self : (m : Mark) → only m m ≡ Some tt
+unfolding same_mark
+only-self m = rw (true_same the_type m m refl)
 
 sign_again : (minus : Bool) → sign_of (if minus then marks.Minus else marks.Plus) ≡ Some minus
 sign_again true = refl

@@ -1,14 +1,14 @@
 -- What is printed at a place: by the rule that makes it, or in brackets.
 use Rattle.std.proofs.Common.{◌≡◌, List, [], ◌∷◌, Bool, true, false, refl, sym, subst, ap, if◌then◌else◌}
 use Rattle.sql_tree.specs.declared.term.Term.{Term}
-use Rattle.sql_syntax.specs.declared.mark.Mark.{Mark}
-use Rattle.sql_syntax.specs.declared.mark.Mark.TheVariants as marks
-use Rattle.sql_syntax.specs.declared.terminal.Terminal.{Terminal}
-use Rattle.sql_syntax.specs.declared.terminal.Terminal.TheVariants as terminal
+use Rattle.sql_grammar.specs.declared.mark.Mark.{Mark}
+use Rattle.sql_grammar.specs.declared.mark.Mark.TheVariants as marks
+use Rattle.sql_grammar.specs.declared.terminal.Terminal.{Terminal}
+use Rattle.sql_grammar.specs.declared.terminal.Terminal.TheVariants as terminal
 use Rattle.sql_syntax.specs.declared.print_tightness.Tightness.{Tightness}
 use Rattle.sql_syntax.specs.declared.print_tightness.Tightness.TheVariants as tight
-use Rattle.sql_syntax.specs.Languages.{Language}
-use Rattle.sql_syntax.specs.Expression.{Place, expr, neg, unary, column, brackets}
+use Rattle.sql_grammar.specs.Languages.{Language}
+use Rattle.sql_grammar.specs.Expression.{Place, expr, neg, unary, column, brackets}
 use Rattle.sql_syntax.specs.Printing.{looser, made_by, bracketed}
 use Rattle.sql_syntax.specs.PrintingTerm.{printed}
 use Rattle.sql_syntax.proofs.PrintPlaces.{Ruled, widen}

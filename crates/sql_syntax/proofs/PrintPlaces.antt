@@ -1,11 +1,11 @@
 -- The rules of expressions by tightness: what a tight rule makes a looser one makes too.
 use Rattle.std.proofs.Common.{◌≡◌, List, [], false, refl, subst, append-nil}
 use Rattle.sql_tree.specs.declared.term.Term.{Term}
-use Rattle.sql_syntax.specs.declared.terminal.Terminal.{Terminal}
+use Rattle.sql_grammar.specs.declared.terminal.Terminal.{Terminal}
 use Rattle.sql_syntax.specs.declared.print_tightness.Tightness.{Tightness}
 use Rattle.sql_syntax.specs.declared.print_tightness.Tightness.TheVariants as tight
-use Rattle.sql_syntax.specs.Languages.{Language, none, Chain, chain}
-use Rattle.sql_syntax.specs.Expression.{Place, Primary, Unary, primary, Product, Sum, nothing, Test, Neg, Conj, Expr}
+use Rattle.sql_grammar.specs.Languages.{Language, none, Chain, chain}
+use Rattle.sql_grammar.specs.Expression.{Place, Primary, Unary, primary, Product, Sum, nothing, Test, Neg, Conj, Expr}
 use Rattle.sql_syntax.specs.Printing.{looser}
 
 -- What a rule makes.

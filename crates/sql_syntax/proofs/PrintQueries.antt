@@ -5,13 +5,13 @@ use Rattle.sql_tree.specs.declared.key.Key.{Key}
 use Rattle.sql_tree.specs.declared.select.Select.{Select}
 use Rattle.sql_tree.specs.declared.table.Table.{Table}
 use Rattle.sql_tree.specs.declared.term.Term.{Term}
-use Rattle.sql_syntax.specs.declared.mark.Mark.{Mark}
-use Rattle.sql_syntax.specs.declared.mark.Mark.TheVariants as marks
-use Rattle.sql_syntax.specs.declared.terminal.Terminal.{Terminal}
-use Rattle.sql_syntax.specs.declared.terminal.Terminal.TheVariants as terminal
-use Rattle.sql_syntax.specs.Languages.{Optional, absent, present, chain}
-use Rattle.sql_syntax.specs.Expression.{Expression}
-use Rattle.sql_syntax.specs.Query.{Alias, announced, AnItem, item, ATable, table, Direction, ascending, descending, AKey, key, parts, Keys, keys, keys_of, Numeral, numeral, Distinct, all, distinct, Tail, ATail, tail, Question, star, select}
+use Rattle.sql_grammar.specs.declared.mark.Mark.{Mark}
+use Rattle.sql_grammar.specs.declared.mark.Mark.TheVariants as marks
+use Rattle.sql_grammar.specs.declared.terminal.Terminal.{Terminal}
+use Rattle.sql_grammar.specs.declared.terminal.Terminal.TheVariants as terminal
+use Rattle.sql_grammar.specs.Languages.{Optional, absent, present, chain}
+use Rattle.sql_grammar.specs.Expression.{Expression}
+use Rattle.sql_grammar.specs.Query.{Alias, announced, AnItem, item, ATable, table, Direction, ascending, descending, AKey, key, parts, Keys, keys, keys_of, Numeral, numeral, Distinct, all, distinct, Tail, ATail, tail, Question, star, select}
 use Rattle.sql_syntax.specs.Printing.{joined_by}
 use Rattle.sql_syntax.specs.PrintingQuery.{expression_printed, alias_printed, item_printed, table_printed, behind_printed, direction_printed, distinct_printed, key_printed, keys_printed, limit_printed, question_printed}
 use Rattle.sql_syntax.proofs.PrintParts.{Each, each_append, each_front, each_back, Written, listed_again}

@@ -4,10 +4,10 @@ use Rattle.sql_tree.specs.declared.addend.Addend.{Addend}
 use Rattle.doc_values.specs.declared.compare_op.CompareOp.{CompareOp}
 use Rattle.sql_tree.specs.declared.term.Term.{Term}
 use Rattle.sql_tree.specs.declared.term.Term.TheVariants as term
-use Rattle.sql_syntax.specs.declared.mark.Mark.{Mark}
-use Rattle.sql_syntax.specs.declared.mark.Mark.TheVariants as marks
-use Rattle.sql_syntax.specs.declared.terminal.Terminal.{Terminal}
-use Rattle.sql_syntax.specs.declared.terminal.Terminal.TheVariants as terminal
+use Rattle.sql_grammar.specs.declared.mark.Mark.{Mark}
+use Rattle.sql_grammar.specs.declared.mark.Mark.TheVariants as marks
+use Rattle.sql_grammar.specs.declared.terminal.Terminal.{Terminal}
+use Rattle.sql_grammar.specs.declared.terminal.Terminal.TheVariants as terminal
 use Rattle.sql_syntax.specs.declared.print_tightness.Tightness.{Tightness}
 use Rattle.sql_syntax.specs.declared.print_tightness.Tightness.TheVariants as tight
 use Rattle.sql_syntax.specs.Printing.{bracketed, each_behind, joined_by, all_at, addends_printed, sum_printed, denial_printed, mark_of}

@@ -3,9 +3,9 @@ use Rattle.std.proofs.Common.{ℕ, ◌≤◌, List, [], ◌∷◌, ◌++◌, len
 use Rattle.std.specs.Prelude.{codes}
 use Rattle.sql_tree.specs.declared.statement.Statement.{Statement}
 use Rattle.sql_tokens.specs.Tokens.{most_bytes}
-use Rattle.sql_syntax.specs.Words.{terminals_of}
-use Rattle.sql_syntax.specs.Query.{Question}
-use Rattle.sql_syntax.specs.Statement.{Spells, load, question, SpellsLoad}
+use Rattle.sql_grammar.specs.Words.{terminals_of}
+use Rattle.sql_grammar.specs.Query.{Question}
+use Rattle.sql_grammar.specs.Statement.{Spells, load, question, SpellsLoad}
 use Rattle.sql_syntax.specs.PrintingQuery.{question_printed}
 use Rattle.sql_syntax.specs.PrintingText.{json_printed, statement_printed}
 use Rattle.sql_syntax.proofs.PrintTokens.{Quoting, IsWritable, writable_fitting, tokens_writable}

@@ -6,8 +6,8 @@ use Rattle.sql_tree.specs.declared.addend.Addend.{Addend}
 use Rattle.sql_tree.specs.declared.reference.Ref.{Ref}
 use Rattle.sql_tree.specs.declared.term.Term.{Term, the_lemmas}
 use Rattle.sql_tree.specs.declared.term.Term.TheVariants as term
-use Rattle.sql_syntax.specs.declared.mark.Mark.TheVariants as marks
-use Rattle.sql_syntax.specs.declared.terminal.Terminal.TheVariants as terminal
+use Rattle.sql_grammar.specs.declared.mark.Mark.TheVariants as marks
+use Rattle.sql_grammar.specs.declared.terminal.Terminal.TheVariants as terminal
 use Rattle.sql_syntax.specs.declared.print_tightness.Tightness.{Tightness}
 use Rattle.sql_syntax.specs.declared.print_tightness.Tightness.TheVariants as tight
 use Rattle.sql_syntax.specs.Printing.{made_by, bracketed, joined_by, all_at, reference_printed, call_printed, kind_word, mark_of, denial_printed, truth_mark, sum_printed}

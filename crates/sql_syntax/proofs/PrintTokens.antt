@@ -19,12 +19,12 @@ use Rattle.sql_tokens.specs.declared.token_sort.TokenSort.TheVariants as sorts
 use Rattle.sql_tokens.specs.Forms.{is_word_start, is_word_byte, is_word, is_numeral, is_dot, is_segment, is_segment_byte, is_quoted_name, most_value, between, doubled, IsToken, goes_on}
 use Rattle.sql_tokens.specs.Tokens.{HasFrom, none, next, written}
 use Rattle.sql_tokens.specs.Values.{quoted_name, text_value}
-use Rattle.sql_syntax.specs.declared.mark.Mark.{Mark}
-use Rattle.sql_syntax.specs.declared.mark.Mark.TheVariants as marks
-use Rattle.sql_syntax.specs.declared.terminal.Terminal.{Terminal}
-use Rattle.sql_syntax.specs.declared.terminal.Terminal.TheVariants as terminal
-use Rattle.sql_syntax.specs.Terminals.{is_name}
-use Rattle.sql_syntax.specs.Words.{mark_of_word, word_terminal, terminal_of, terminals_of}
+use Rattle.sql_grammar.specs.declared.mark.Mark.{Mark}
+use Rattle.sql_grammar.specs.declared.mark.Mark.TheVariants as marks
+use Rattle.sql_grammar.specs.declared.terminal.Terminal.{Terminal}
+use Rattle.sql_grammar.specs.declared.terminal.Terminal.TheVariants as terminal
+use Rattle.sql_grammar.specs.Terminals.{is_name}
+use Rattle.sql_grammar.specs.Words.{mark_of_word, word_terminal, terminal_of, terminals_of}
 use Rattle.sql_syntax.specs.Printing.{kind_word}
 use Rattle.sql_syntax.specs.PrintingText.{terminal_text}
 use Rattle.sql_syntax.proofs.PrintParts.{Each}

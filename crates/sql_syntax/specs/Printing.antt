@@ -7,10 +7,10 @@ use Rattle.doc_values.specs.declared.compare_op.CompareOp.TheVariants as ops
 use Rattle.sql_tree.specs.declared.agg_call.AggCall.{AggCall}
 use Rattle.sql_tree.specs.declared.agg_call.AggCall.TheVariants as calls
 use Rattle.sql_tree.specs.declared.reference.Ref.{Ref}
-use Rattle.sql_syntax.specs.declared.mark.Mark.{Mark}
-use Rattle.sql_syntax.specs.declared.mark.Mark.TheVariants as marks
-use Rattle.sql_syntax.specs.declared.terminal.Terminal.{Terminal}
-use Rattle.sql_syntax.specs.declared.terminal.Terminal.TheVariants as terminal
+use Rattle.sql_grammar.specs.declared.mark.Mark.{Mark}
+use Rattle.sql_grammar.specs.declared.mark.Mark.TheVariants as marks
+use Rattle.sql_grammar.specs.declared.terminal.Terminal.{Terminal}
+use Rattle.sql_grammar.specs.declared.terminal.Terminal.TheVariants as terminal
 use Rattle.sql_syntax.specs.declared.print_tightness.Tightness.{Tightness}
 use Rattle.sql_syntax.specs.declared.print_tightness.Tightness.TheVariants as tight
 

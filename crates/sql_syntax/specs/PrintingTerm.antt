@@ -4,9 +4,9 @@ use Rattle.sql_tree.specs.declared.agg_call.AggCall.TheVariants as calls
 use Rattle.sql_tree.specs.declared.addend.Addend.{Addend}
 use Rattle.sql_tree.specs.declared.term.Term.{Term, fold-Term}
 use Rattle.sql_tree.specs.declared.term.Term.TheOpen.{Term-F, Addend-F}
-use Rattle.sql_syntax.specs.declared.mark.Mark.TheVariants as marks
-use Rattle.sql_syntax.specs.declared.terminal.Terminal.{Terminal}
-use Rattle.sql_syntax.specs.declared.terminal.Terminal.TheVariants as terminal
+use Rattle.sql_grammar.specs.declared.mark.Mark.TheVariants as marks
+use Rattle.sql_grammar.specs.declared.terminal.Terminal.{Terminal}
+use Rattle.sql_grammar.specs.declared.terminal.Terminal.TheVariants as terminal
 use Rattle.sql_syntax.specs.declared.print_tightness.Tightness.{Tightness}
 use Rattle.sql_syntax.specs.declared.print_tightness.Tightness.TheVariants as tight
 use Rattle.sql_syntax.specs.Printing.{Printed, PrintedAddend, made_by, bracketed, joined_by, all_at, reference_printed, call_printed, kind_word, call_word, mark_of, denial_printed, truth_mark, sum_printed}

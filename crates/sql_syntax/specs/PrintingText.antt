@@ -4,12 +4,30 @@ use Rattle.sql_tree.specs.declared.set.Set.{Set}
 use Rattle.sql_tree.specs.declared.statement.Statement.{Statement}
 use Rattle.sql_tree.specs.declared.statement.Statement.TheVariants as statement
 use Rattle.sql_tokens.specs.Forms.{between, doubled}
-use Rattle.sql_syntax.specs.declared.mark.Mark.{Mark}
-use Rattle.sql_syntax.specs.declared.mark.Mark.TheVariants as marks
-use Rattle.sql_syntax.specs.declared.terminal.Terminal.{Terminal}
-use Rattle.sql_syntax.specs.declared.terminal.Terminal.TheVariants as terminal
+use Rattle.sql_grammar.specs.declared.mark.Mark.{Mark}
+use Rattle.sql_grammar.specs.declared.mark.Mark.TheVariants as marks
+use Rattle.sql_grammar.specs.declared.terminal.Terminal.{Terminal}
+use Rattle.sql_grammar.specs.declared.terminal.Terminal.TheVariants as terminal
 use Rattle.sql_syntax.specs.Printing.{joined_by}
 use Rattle.sql_syntax.specs.PrintingQuery.{behind_printed, set_printed, question_printed}
+
+-- A symbol, or nothing for a mark that is none.
+abbrev pub symbol_text : Mark → List ℕ
+symbol_text marks.Open = codes "("
+symbol_text marks.Close = codes ")"
+symbol_text marks.Comma = codes ","
+symbol_text marks.Dot = codes "."
+symbol_text marks.Semicolon = codes ";"
+symbol_text marks.Star = codes "*"
+symbol_text marks.Plus = codes "+"
+symbol_text marks.Minus = codes "-"
+symbol_text marks.Equal = codes "="
+symbol_text marks.NotEqual = codes "<>"
+symbol_text marks.Less = codes "<"
+symbol_text marks.LessEqual = codes "<="
+symbol_text marks.Greater = codes ">"
+symbol_text marks.GreaterEqual = codes ">="
+symbol_text _ = []
 
 -- A reserved word in capitals, or a symbol.
 abbrev pub mark_text : Mark → List ℕ
@@ -42,20 +60,7 @@ mark_text marks.False = codes "FALSE"
 mark_text marks.Asc = codes "ASC"
 mark_text marks.Desc = codes "DESC"
 mark_text marks.Set = codes "SET"
-mark_text marks.Open = codes "("
-mark_text marks.Close = codes ")"
-mark_text marks.Comma = codes ","
-mark_text marks.Dot = codes "."
-mark_text marks.Semicolon = codes ";"
-mark_text marks.Star = codes "*"
-mark_text marks.Plus = codes "+"
-mark_text marks.Minus = codes "-"
-mark_text marks.Equal = codes "="
-mark_text marks.NotEqual = codes "<>"
-mark_text marks.Less = codes "<"
-mark_text marks.LessEqual = codes "<="
-mark_text marks.Greater = codes ">"
-mark_text marks.GreaterEqual = codes ">="
+mark_text mark = symbol_text mark
 
 -- A terminal.
 abbrev pub terminal_text : Terminal → List ℕ

@@ -1,7 +1,7 @@
 ghost use Rattle.std.specs.Prelude.{◌≤◌, ℕ, List, length};
 ghost use Rattle.sql_tree.specs.declared.statement.Statement.{Statement};
 ghost use Rattle.sql_tokens.specs.Tokens.{most_bytes};
-ghost use Rattle.sql_syntax.specs.Statement.{Spells};
+ghost use Rattle.sql_grammar.specs.Statement.{Spells};
 ghost use Rattle.sql_syntax.specs.PrintingText.{statement_printed};
 
 use sql_tokens::a_value_is_written_between_quotes;

@@ -1,13 +1,13 @@
 ghost use Rattle.std.specs.Prelude.{◌≡◌, [], ◌∷◌, ◌++◌, OnOk, if◌then◌else◌};
-ghost use Rattle.sql_syntax.specs.declared.mark.Mark.TheVariants as marks;
-ghost use Rattle.sql_syntax.specs.declared.terminal.Terminal.TheVariants as terminal;
+ghost use Rattle.sql_grammar.specs.declared.mark.Mark.TheVariants as marks;
+ghost use Rattle.sql_grammar.specs.declared.terminal.Terminal.TheVariants as terminal;
 ghost use Rattle.sql_tree.specs.declared.agg_call.AggCall.TheVariants as calls;
 ghost use Rattle.sql_syntax.specs.Printing.{call_printed, call_word, denial_printed, kind_word, mark_of, reference_printed, truth_mark};
 ghost use Rattle.sql_syntax.specs.PrintingText.{spaced};
 
-use crate::mark::Mark;
 use crate::print_terminals::{write_mark, write_name, write_word};
 use doc_values::{CompareOp, Kind};
+use sql_grammar::Mark;
 use sql_tree::{AggCall, Ref};
 use std::alloc::AllocError;
 

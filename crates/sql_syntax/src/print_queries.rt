@@ -1,16 +1,16 @@
 ghost use Rattle.std.specs.Prelude.{◌≡◌, [], ◌∷◌, ◌++◌, map, OnOk, if◌then◌else◌};
-ghost use Rattle.sql_syntax.specs.declared.mark.Mark.TheVariants as marks;
-ghost use Rattle.sql_syntax.specs.declared.terminal.Terminal.TheVariants as terminal;
+ghost use Rattle.sql_grammar.specs.declared.mark.Mark.TheVariants as marks;
+ghost use Rattle.sql_grammar.specs.declared.terminal.Terminal.TheVariants as terminal;
 ghost use Rattle.sql_syntax.specs.Printing.{joined_by, reference_printed};
 ghost use Rattle.sql_syntax.specs.PrintingQuery.{behind_printed, direction_printed, distinct_printed, expression_printed, grouping_printed, item_printed, items_printed, key_printed, keys_printed, limit_printed, question_behind, tail_printed};
 ghost use Rattle.sql_syntax.specs.PrintingText.{spaced};
 
-use crate::mark::Mark;
 use crate::print_leaves::write_reference;
 use crate::print_tables::{write_alias, write_tables};
 use crate::print_terminals::{write_mark, write_mark_before, write_number};
 use crate::print_terms::write_term;
 use crate::print_tightness::Tightness;
+use sql_grammar::Mark;
 use sql_tree::{Item, Key, Ref, Select, Term};
 use std::alloc::AllocError;
 

@@ -1,14 +1,14 @@
 ghost use Rattle.std.specs.Prelude.{◌≡◌, ◌++◌, ◌∷◌, ℕ, List, codes, map, OnOk, OnErr};
-ghost use Rattle.sql_syntax.specs.declared.mark.Mark.TheVariants as marks;
-ghost use Rattle.sql_syntax.specs.declared.terminal.Terminal.TheVariants as terminal;
+ghost use Rattle.sql_grammar.specs.declared.mark.Mark.TheVariants as marks;
+ghost use Rattle.sql_grammar.specs.declared.terminal.Terminal.TheVariants as terminal;
 ghost use Rattle.sql_syntax.specs.Printing.{joined_by};
 ghost use Rattle.sql_syntax.specs.PrintingQuery.{behind_printed, set_printed};
 ghost use Rattle.sql_syntax.specs.PrintingText.{json_printed, sets_printed, spaced, statement_printed};
-ghost use Rattle.sql_syntax.specs.Statement.{Spells};
+ghost use Rattle.sql_grammar.specs.Statement.{Spells};
 
-use crate::mark::Mark;
 use crate::print_queries::{write_behind_mark, write_expression, write_question};
 use crate::print_terminals::{write_mark, write_mark_before, write_name, write_word};
+use sql_grammar::Mark;
 use sql_tree::{Set, Statement, Term};
 use std::alloc::AllocError;
 

@@ -2,9 +2,9 @@ ghost use Rattle.std.specs.Prelude.{◌≡◌, ◌++◌, OnOk};
 ghost use Rattle.sql_syntax.specs.PrintingQuery.{alias_printed, table_printed, tables_printed};
 ghost use Rattle.sql_syntax.specs.PrintingText.{spaced};
 
-use crate::mark::Mark;
 use crate::print_terminals::{write_mark, write_mark_before, write_word};
 use doc_values::Utf;
+use sql_grammar::Mark;
 use sql_tree::Table;
 use std::alloc::AllocError;
 

@@ -1,10 +1,10 @@
 ghost use Rattle.std.specs.Prelude.{◌≡◌, [], ◌∷◌, ◌++◌, OnOk};
 ghost use Rattle.sql_tokens.specs.Forms.{doubled};
-ghost use Rattle.sql_syntax.specs.declared.terminal.Terminal.TheVariants as terminal;
-ghost use Rattle.sql_syntax.specs.PrintingText.{mark_before, mark_text, spaced};
+ghost use Rattle.sql_grammar.specs.declared.terminal.Terminal.TheVariants as terminal;
+ghost use Rattle.sql_syntax.specs.PrintingText.{mark_before, mark_text, spaced, symbol_text};
 
-use crate::mark::Mark;
 use itoa::Buffer;
+use sql_grammar::Mark;
 use std::alloc::AllocError;
 
 /// Writes bytes behind a space.
@@ -122,6 +122,15 @@ fn mark_text(mark: Mark) -> &'static str
         Mark::Asc => "ASC",
         Mark::Desc => "DESC",
         Mark::Set => "SET",
+        _ => symbol_text(mark),
+    }
+}
+
+/// A symbol, or nothing for a mark that is none.
+fn symbol_text(mark: Mark) -> &'static str
+    ensures exact { result.now ≡ symbol_text mark }
+{
+    match mark {
         Mark::Open => "(",
         Mark::Close => ")",
         Mark::Comma => ",",
@@ -136,5 +145,6 @@ fn mark_text(mark: Mark) -> &'static str
         Mark::LessEqual => "<=",
         Mark::Greater => ">",
         Mark::GreaterEqual => ">=",
+        _ => "",
     }
 }

@@ -1,12 +1,11 @@
 ghost use Rattle.std.specs.Prelude.{◌≡◌, [], ◌∷◌, ◌++◌, drop, map, OnOk};
-ghost use Rattle.sql_syntax.specs.declared.mark.Mark.TheVariants as marks;
-ghost use Rattle.sql_syntax.specs.declared.terminal.Terminal.TheVariants as terminal;
+ghost use Rattle.sql_grammar.specs.declared.mark.Mark.TheVariants as marks;
+ghost use Rattle.sql_grammar.specs.declared.terminal.Terminal.TheVariants as terminal;
 ghost use Rattle.sql_syntax.specs.declared.print_tightness.Tightness.TheVariants as tight;
 ghost use Rattle.sql_syntax.specs.Printing.{addends_printed, all_at, bracketed, call_printed, call_word, each_behind, joined_by, sum_printed};
 ghost use Rattle.sql_syntax.specs.PrintingTerm.{member_printed, printed};
 ghost use Rattle.sql_syntax.specs.PrintingText.{spaced};
 
-use crate::mark::Mark;
 use crate::print_leaves::{
     mark_of, sign_mark, truth_mark, write_aggregate_word, write_count_all, write_denial,
     write_reference, write_wanted,
@@ -15,6 +14,7 @@ use crate::print_rules::is_bracketed;
 use crate::print_terminals::{write_mark, write_number, write_text};
 use crate::print_tests::{write_any_of, write_is_null, write_like};
 use crate::print_tightness::Tightness;
+use sql_grammar::Mark;
 use sql_tree::{Addend, AggCall, Term};
 use std::alloc::AllocError;
 

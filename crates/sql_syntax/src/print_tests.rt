@@ -1,16 +1,16 @@
 ghost use Rattle.std.specs.Prelude.{◌≡◌, [], ◌∷◌, ◌++◌, OnOk};
-ghost use Rattle.sql_syntax.specs.declared.mark.Mark.TheVariants as marks;
-ghost use Rattle.sql_syntax.specs.declared.terminal.Terminal.TheVariants as terminal;
+ghost use Rattle.sql_grammar.specs.declared.mark.Mark.TheVariants as marks;
+ghost use Rattle.sql_grammar.specs.declared.terminal.Terminal.TheVariants as terminal;
 ghost use Rattle.sql_syntax.specs.declared.print_tightness.Tightness.TheVariants as tight;
 ghost use Rattle.sql_syntax.specs.Printing.{bracketed, denial_printed, reference_printed};
 ghost use Rattle.sql_syntax.specs.PrintingTerm.{printed};
 ghost use Rattle.sql_syntax.specs.PrintingText.{spaced};
 
-use crate::mark::Mark;
 use crate::print_leaves::{write_denial, write_reference};
 use crate::print_terminals::{write_mark, write_text};
 use crate::print_terms::write_term;
 use crate::print_tightness::Tightness;
+use sql_grammar::Mark;
 use sql_tree::{Ref, Term};
 use std::alloc::AllocError;
 

@@ -1,5 +1,5 @@
 use Rattle.std.proofs.Common.{arith}
-use Rattle.sql_syntax.specs.declared.mark.Mark.TheVariants as marks
+use Rattle.sql_grammar.specs.declared.mark.Mark.TheVariants as marks
 use Rattle.sql_syntax.specs.PrintingQuery.{item_printed}
 use Rattle.sql_syntax.proofs.PrintLists.{list_step}
 use Rattle.sql_syntax.proofs.print_queries.write_items.Goals as goal

@@ -1,5 +1,5 @@
 use Rattle.std.proofs.Common.{◌≡◌, ◌++◌, map, take}
-use Rattle.sql_syntax.specs.declared.mark.Mark.TheVariants as marks
+use Rattle.sql_grammar.specs.declared.mark.Mark.TheVariants as marks
 use Rattle.sql_syntax.specs.Printing.{joined_by}
 use Rattle.sql_syntax.specs.Printing.{reference_printed}
 use Rattle.sql_syntax.specs.PrintingText.{spaced}

@@ -1,5 +1,5 @@
 use Rattle.std.proofs.Common.{◌++◌, ap, ◌∙◌}
-use Rattle.sql_syntax.specs.declared.mark.Mark.TheVariants as marks
+use Rattle.sql_grammar.specs.declared.mark.Mark.TheVariants as marks
 use Rattle.sql_syntax.specs.PrintingQuery.{behind_printed, grouping_printed, keys_printed, limit_printed}
 use Rattle.sql_syntax.specs.PrintingText.{spaced}
 use Rattle.sql_syntax.proofs.PrintSpaced.{then_spaced}

@@ -1,6 +1,6 @@
 use Rattle.std.proofs.Common.{[], ◌∷◌, ◌++◌}
-use Rattle.sql_syntax.specs.declared.mark.Mark.TheVariants as marks
-use Rattle.sql_syntax.specs.declared.terminal.Terminal.TheVariants as terminal
+use Rattle.sql_grammar.specs.declared.mark.Mark.TheVariants as marks
+use Rattle.sql_grammar.specs.declared.terminal.Terminal.TheVariants as terminal
 use Rattle.sql_syntax.specs.PrintingQuery.{behind_printed}
 use Rattle.sql_syntax.specs.PrintingText.{sets_printed}
 use Rattle.sql_syntax.proofs.PrintSpaced.{then_spaced}

@@ -1,5 +1,5 @@
 use Rattle.std.proofs.Common.{arith}
-use Rattle.sql_syntax.specs.declared.mark.Mark.TheVariants as marks
+use Rattle.sql_grammar.specs.declared.mark.Mark.TheVariants as marks
 use Rattle.sql_syntax.specs.PrintingQuery.{table_printed}
 use Rattle.sql_syntax.proofs.PrintLists.{list_step}
 use Rattle.sql_syntax.proofs.print_tables.write_tables.Goals as goal

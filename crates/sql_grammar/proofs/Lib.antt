@@ -1,0 +1,17 @@
+pub mod Marks
+pub mod Reading
+pub mod Chains
+pub mod Openings
+pub mod Names
+pub mod Primaries
+pub mod Tests
+pub mod Levels
+pub mod Steps
+pub mod Ahead
+pub mod Queries
+pub mod Questions
+pub mod Runs
+pub mod LoadTexts
+pub mod Texts
+pub mod Aliases
+pub mod Inside

@@ -1,0 +1,15 @@
+pub mod Terminals
+pub mod Languages
+pub mod Nodes
+pub mod Expression
+pub mod Reader
+pub mod ExpressionReader
+pub mod TestReader
+pub mod Query
+pub mod QueryReader
+pub mod Cursor
+pub mod Words
+pub mod Faults
+pub mod Statement
+pub mod StatementReader
+pub mod Nests

@@ -1,0 +1,109 @@
+-- The question that terminals spell, as a function.
+use Rattle.std.specs.Prelude.{ℕ, List, [], ◌∷◌, nat_le, length, Bool, true, false, Option, Some, None, if◌then◌else◌}
+use Rattle.sql_tree.specs.declared.item.Item.{Item}
+use Rattle.sql_tree.specs.declared.key.Key.{Key}
+use Rattle.sql_tree.specs.declared.select.Select.{Select}
+use Rattle.sql_tree.specs.declared.table.Table.{Table}
+use Rattle.sql_grammar.specs.declared.mark.Mark.TheVariants as marks
+use Rattle.sql_grammar.specs.declared.terminal.Terminal.{Terminal}
+use Rattle.sql_grammar.specs.declared.terminal.Terminal.TheVariants as terminal
+use Rattle.sql_grammar.specs.Terminals.{is_alias}
+use Rattle.sql_grammar.specs.Query.{Tail, is_numeral, most_parts, question}
+use Rattle.sql_grammar.specs.Reader.{Found, Reader, ◌>>=◌, takes, expect, optional_in, listed_in}
+use Rattle.sql_grammar.specs.TestReader.{expression_in}
+
+-- alias, as one that is there.
+unfoldable pub alias_in : Reader (Option (List ℕ))
+alias_in (terminal.Word w ∷ rest) = if is_alias w then Some (Some w, rest) else None
+alias_in _ = None
+
+-- [alias].
+unfoldable pub bare_alias_in : Reader (Option (List ℕ))
+bare_alias_in (terminal.Word w ∷ rest) = if is_alias w then Some (Some w, rest) else None
+bare_alias_in all = Some (None, all)
+
+-- [[AS] alias], behind AS or with none.
+abbrev pub named_by : List Terminal → Option (List Terminal) → Found (Option (List ℕ))
+named_by all (Some rest) = alias_in rest
+named_by all None = bare_alias_in all
+
+-- [[AS] alias].
+unfoldable pub named_in : Reader (Option (List ℕ))
+named_in all = named_by all (takes marks.As all)
+
+-- item.
+unfoldable pub item_in : Reader Item
+item_in all = expression_in all >>= λ t rest. named_in rest >>= λ n rest. Some (record { expr = t; alias = n }, rest)
+
+-- table.
+unfoldable pub table_in : Reader Table
+table_in (terminal.Word w ∷ rest) = if is_alias w then (named_in rest >>= λ n rest. Some (record { collection = w; alias = n }, rest)) else None
+table_in _ = None
+
+-- DESC or nothing.
+abbrev pub descending_by : List Terminal → Option (List Terminal) → Found Bool
+descending_by all (Some rest) = Some (true, rest)
+descending_by all None = Some (false, all)
+
+-- ASC, or what is there without it.
+abbrev pub direction_by : List Terminal → Option (List Terminal) → Found Bool
+direction_by all (Some rest) = Some (false, rest)
+direction_by all None = descending_by all (takes marks.Desc all)
+
+-- [ASC | DESC].
+unfoldable pub direction_in : Reader Bool
+direction_in all = direction_by all (takes marks.Asc all)
+
+-- key.
+unfoldable pub key_in : Reader Key
+key_in all = expression_in all >>= λ t rest. if is_numeral t then None else (direction_in rest >>= λ d rest. Some (record { expr = t; descending = d }, rest))
+
+-- A list of parts that is not too long.
+unfoldable pub at_most_in : {A : Type 0} → Reader (List A) → Reader (List A)
+at_most_in parts all = parts all >>= λ xs rest. if nat_le (length xs) most_parts then Some (xs, rest) else None
+
+-- BY key {, key}.
+unfoldable pub keys_in : Reader (List Key)
+keys_in all = expect marks.By all >>= λ _ rest. at_most_in (listed_in key_in) rest
+
+-- A numeral.
+unfoldable pub numeral_in : Reader ℕ
+numeral_in (terminal.Number n ∷ rest) = Some (n, rest)
+numeral_in _ = None
+
+-- What a question says behind its table.
+unfoldable pub tail_in : Reader Tail
+tail_in all =
+    optional_in marks.Where expression_in all >>= λ t rest. optional_in marks.Order keys_in rest >>= λ ks rest. optional_in marks.Limit numeral_in rest >>= λ l rest. Some (record { test = t; keys = ks; limit = l }, rest)
+
+-- What a question says from FROM on.
+unfoldable pub from_in : Bool → Bool → List Item → Reader Select
+from_in star distinct items all =
+    expect marks.From all >>= λ _ rest. table_in rest >>= λ t rest. tail_in rest >>= λ l rest. Some (question star distinct items t l, rest)
+
+-- What a question says behind SELECT and DISTINCT: a star or items first.
+abbrev pub shown_by : Bool → List Terminal → Option (List Terminal) → Found Select
+shown_by distinct all (Some rest) = from_in true distinct [] rest
+shown_by distinct all None = at_most_in (listed_in item_in) all >>= λ is rest. from_in false distinct is rest
+
+-- What a question says behind SELECT and DISTINCT.
+unfoldable pub shown_in : Bool × List Terminal → Found Select
+shown_in d = shown_by d.0 d.1 (takes marks.Star d.1)
+
+-- Whether DISTINCT came first, and what is behind it.
+abbrev pub distinct_by : List Terminal → Option (List Terminal) → Bool × List Terminal
+distinct_by all (Some rest) = (true, rest)
+distinct_by all None = (false, all)
+
+-- [DISTINCT].
+unfoldable pub distinct_in : List Terminal → Bool × List Terminal
+distinct_in all = distinct_by all (takes marks.Distinct all)
+
+-- A question.
+unfoldable pub question_in : Reader Select
+question_in all = expect marks.Select all >>= λ _ rest. shown_in (distinct_in rest)
+
+-- Nothing is left.
+abbrev pub whole : {A : Type 0} → Found A → Option A
+whole None = None
+whole (Some p) = elim p.1 [ [] ↦ Some p.0 | t ∷ ts ↦ None ]

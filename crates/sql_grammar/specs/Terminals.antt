@@ -1,0 +1,64 @@
+-- What the grammar's terminals mean, each by itself.
+use Rattle.std.specs.Prelude.{ℕ, List, Bool, true, false, nat_le, length, codes, Option, Some, None, if◌then◌else◌}
+use Rattle.std.specs.Str.{str_eq_ignore_ascii_case}
+use denote.Enum.Bare.{sameb}
+use Rattle.sql_grammar.specs.contracts.mark.Mark.{the_type}
+use Rattle.doc_values.specs.declared.kind.Kind.{Kind}
+use Rattle.doc_values.specs.declared.kind.Kind.TheVariants as kinds
+use Rattle.doc_values.specs.declared.compare_op.CompareOp.{CompareOp}
+use Rattle.doc_values.specs.declared.compare_op.CompareOp.TheVariants as ops
+use Rattle.sql_grammar.specs.declared.mark.Mark.{Mark}
+use Rattle.sql_grammar.specs.declared.mark.Mark.TheVariants as marks
+
+-- The most bytes that a word may have as the name of a column.
+abbrev pub most_name_bytes : ℕ
+most_name_bytes = 255
+
+-- The most bytes that a word may have as a collection or an alias.
+abbrev pub most_alias_bytes : ℕ
+most_alias_bytes = 63
+
+-- The word may name a column.
+abbrev pub is_name : List ℕ → Bool
+is_name word = nat_le (length word) most_name_bytes
+
+-- The word may name a collection or a table or an item.
+abbrev pub is_alias : List ℕ → Bool
+is_alias word = nat_le (length word) most_alias_bytes
+
+-- The word is this one, in any case of letters.
+abbrev pub is_keyword : List ℕ → List ℕ → Bool
+is_keyword keyword word = str_eq_ignore_ascii_case word keyword
+
+-- The kind that a word asks for where a bracket follows it.
+abbrev pub kind_of : List ℕ → Option Kind
+kind_of word =
+    if is_keyword (codes "INT") word then Some kinds.Int
+    else if is_keyword (codes "TEXT") word then Some kinds.Text
+    else if is_keyword (codes "BOOL") word then Some kinds.Bool
+    else if is_keyword (codes "ARRAY") word then Some kinds.Array
+    else None
+
+-- The comparison that a mark stands for.
+abbrev pub comparison_of : Mark → Option CompareOp
+comparison_of marks.Equal = Some ops.Eq
+comparison_of marks.NotEqual = Some ops.Ne
+comparison_of marks.Less = Some ops.Lt
+comparison_of marks.LessEqual = Some ops.Le
+comparison_of marks.Greater = Some ops.Gt
+comparison_of marks.GreaterEqual = Some ops.Ge
+comparison_of _ = None
+
+-- Whether a mark that joins members of a sum takes its member away.
+abbrev pub sign_of : Mark → Option Bool
+sign_of marks.Plus = Some false
+sign_of marks.Minus = Some true
+sign_of _ = None
+
+-- The two marks are the same.
+unfoldable pub same_mark : Mark → Mark → Bool
+same_mark = sameb the_type
+
+-- What joins by one mark alone.
+abbrev pub only : Mark → Mark → Option (Unit {0})
+only mark found = if same_mark mark found then Some tt else None

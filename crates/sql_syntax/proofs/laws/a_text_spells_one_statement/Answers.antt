@@ -1,5 +1,0 @@
-use Rattle.sql_syntax.proofs.Texts.{spells_one}
-use Rattle.sql_syntax.proofs.laws.a_text_spells_one_statement.Goals as goal
-
-pub returns : goal.returns
-returns c = record { law = spells_one c.the_tokens_are_those_found.ensures.law }
