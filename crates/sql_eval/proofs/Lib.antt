@@ -4,4 +4,6 @@ pub mod Numbers
 pub mod Products
 pub mod Resolving
 pub mod TermEquations
+pub mod TestForms
 pub mod ValueEquations
+pub mod OneLines

@@ -28,7 +28,7 @@ use Rattle.sql_eval.proofs.Expressions.{added_over-is}
 use Rattle.sql_eval.proofs.TermEquations as terms
 use Rattle.sql_eval.proofs.ValueEquations as exprs
 
-truth_of_value : (t : Truth) → truths.truth_of (truths.value_of t) ≡ t
+pub truth_of_value : (t : Truth) → truths.truth_of (truths.value_of t) ≡ t
 truth_of_value True = refl
 truth_of_value False = refl
 truth_of_value Unknown = refl

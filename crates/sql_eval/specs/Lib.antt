@@ -9,3 +9,4 @@ pub mod Widths
 pub mod Run
 pub mod Within
 pub mod Resolves
+pub mod OneLine

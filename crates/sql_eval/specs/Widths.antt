@@ -1,5 +1,5 @@
 -- How many bits the numbers of an expression need, and which expressions are computed.
-use Rattle.std.specs.Prelude.{ℕ, ◌+◌, ◌*◌, max, sum, nat_le, Bool, true, false, ◌&&◌, List, [], ◌∷◌, map, Option, IfSome}
+use Rattle.std.specs.Prelude.{◌≡◌, ℕ, ◌+◌, ◌*◌, max, sum, length, nat_le, Bool, true, false, ◌&&◌, List, [], ◌∷◌, map, Option, IfSome}
 use Rattle.std.specs.List.{list_all}
 use Rattle.doc_values.specs.Value.{IsStorable}
 use Rattle.sql_tree.specs.declared.agg_call.AggCall.{AggCall}
@@ -106,3 +106,9 @@ is_plain = fold-Expr Bool Bool plain_step (λ a. a.expr)
 -- The numbers in the rows of a tuple are those of documents.
 abbrev pub IsStorableTuple : List (Option Cells) → Type 0
 IsStorableTuple tuple = (slot : Slot) → IfSome (cell_at tuple slot) IsStorable
+
+-- What `eval` and `truth` ask of an expression and a tuple of rows.
+pub record CanEvaluate (tuple : List (Option Cells)) (e : Expr) : Type 0 where
+  pub plain : is_plain e ≡ true
+  pub narrow : (width_of (length tuple) e).narrow ≡ true
+  pub stored : IsStorableTuple tuple

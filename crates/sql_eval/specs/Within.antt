@@ -1,6 +1,9 @@
--- Numbers within so many bits.
-use Rattle.std.specs.Prelude.{ℕ, ℤ, ◌≤◌, ◌^◌, nat_abs}
+-- Words of private calls: numbers within so many bits, and forms of expressions.
+use Rattle.std.specs.Prelude.{ℕ, ℤ, ◌≤◌, ◌^◌, nat_abs, Bool, true, false}
 use Rattle.sql_eval.specs.declared.value_ref.ValueRef as value_ref
+use Rattle.sql_eval.specs.declared.expr.Expr.{Expr}
+use Rattle.sql_eval.specs.declared.expr.Expr.TheOpen.{Expr-F}
+use Rattle.sql_eval.specs.declared.expr.Expr.TheFolds.{fold-Expr}
 
 -- The number is at most 2 to the bits, up and down.
 abbrev pub IsNumberWithin : ℕ → ℤ → Type 0
@@ -13,3 +16,14 @@ IsWithin bits (value_ref.TheVariants.Int n) = IsNumberWithin bits n
 IsWithin bits (value_ref.TheVariants.Text text) = Unit {0}
 IsWithin bits (value_ref.TheVariants.Array text) = Unit {0}
 IsWithin bits value_ref.TheVariants.Object = Unit {0}
+
+-- One level of an expression: whether it is IN, BETWEEN or LIKE.
+abbrev pub in_between_or_like_step : Expr-F Bool (Unit {0}) → Bool
+in_between_or_like_step (Expr-F.Among e es negated) = true
+in_between_or_like_step (Expr-F.Between e low high negated) = true
+in_between_or_like_step (Expr-F.Like e pattern negated) = true
+in_between_or_like_step _ = false
+
+-- An expression is IN, BETWEEN or LIKE.
+abbrev pub is_in_between_or_like : Expr → Bool
+is_in_between_or_like = fold-Expr Bool (Unit {0}) in_between_or_like_step (λ _. tt)

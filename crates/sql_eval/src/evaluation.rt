@@ -4,7 +4,7 @@ ghost use Rattle.sql_eval.specs.Resolved.{value_over};
 ghost use Rattle.sql_eval.specs.Widths.{width_of, is_plain, IsStorableTuple};
 
 use crate::expr::Expr;
-use crate::lending::value;
+use crate::lending::{truth_over, value};
 use crate::truth_value::Truth;
 use crate::tuple::Tuple;
 use doc_values::Value;
@@ -30,5 +30,5 @@ pub fn truth(_alloc: Global, expr: &Expr, tuple: &Tuple) -> Result<Truth, AllocE
     requires stored { IsStorableTuple tuple.now }
     ensures ok { IfOk result (λ truth. truth ≡ truth_of (value_over tuple.now expr.now)) }
 {
-    Ok(Truth::of_value(value(expr, tuple)))
+    Ok(truth_over(expr, tuple))
 }

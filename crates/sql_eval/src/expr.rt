@@ -1,8 +1,12 @@
+ghost use Rattle.std.specs.Prelude.{◌≡◌, IfOk};
+
 use crate::addend::Addend;
+use crate::copying::copy_expr;
 use crate::slot::Slot;
 use doc_values::{CompareOp, Kind, Utf};
 use sql_tree::AggCall;
 use sqlite_items::{Boxed, Items};
+use std::alloc::{AllocError, Global};
 
 /// An expression whose columns are places in rows.
 #[cycle(expr)]
@@ -61,4 +65,13 @@ pub enum Expr {
         call: AggCall,
         arg: Boxed<Expr>,
     },
+}
+
+impl Expr {
+    /// An equal expression of its own.
+    pub fn copy(&self, alloc: Global) -> Result<Expr, AllocError>
+        ensures ok { IfOk result (λ copy. copy ≡ self.now) }
+    {
+        copy_expr(alloc, self)
+    }
 }

@@ -27,29 +27,49 @@ pub(crate) fn value<'a>(expr: &'a Expr, tuple: &'a Tuple) -> Option<ValueRef<'a>
         Expr::Number(n) => Some(ValueRef::Int(i128::from(*n))),
         Expr::Text(text) => Some(ValueRef::Text(text.text())),
         Expr::Bool(b) => Some(ValueRef::Bool(*b)),
-        Expr::Null => None,
         Expr::Column(slot) => tuple.cell(*slot),
         Expr::Wanted { column, .. } => tuple.cell(*column),
-        Expr::Or(members) => any(members.as_slice(), tuple).value(),
-        Expr::And(members) => all(members.as_slice(), tuple).value(),
-        Expr::Not(arg) => Truth::of_value(value(arg.get(), tuple)).not().value(),
+        Expr::Sum(addends) => Some(ValueRef::Int(sum(addends.as_slice(), tuple)?)),
+        Expr::Product(members) => Some(ValueRef::Int(product(members.as_slice(), tuple)?)),
+        Expr::Minus(arg) => Some(ValueRef::Int(negative(number(arg.get(), tuple)?))),
+        Expr::Or(_)
+        | Expr::And(_)
+        | Expr::Not(_)
+        | Expr::Compare { .. }
+        | Expr::IsNull { .. }
+        | Expr::Among { .. }
+        | Expr::Between { .. }
+        | Expr::Like { .. } => truth_over(expr, tuple).value(),
+        Expr::Null | Expr::AnyOf { .. } | Expr::CountAll | Expr::Aggregate { .. } => None,
+    }
+}
+
+// The truth of an expression over a tuple.
+#[cycle(lending)]
+pub(crate) fn truth_over(expr: &Expr, tuple: &Tuple) -> Truth
+    requires narrow { (width_of (length tuple.now) expr.now).narrow ≡ true }
+    requires stored { IsStorableTuple tuple.now }
+    ensures exact { result ≡ truth_of (value_over tuple.now expr.now) }
+{
+    match expr {
+        Expr::Bool(b) => Truth::of(Some(*b)),
+        Expr::Column(slot) => Truth::of_value(tuple.cell(*slot)),
+        Expr::Wanted { column, .. } => Truth::of_value(tuple.cell(*column)),
+        Expr::Or(members) => any(members.as_slice(), tuple),
+        Expr::And(members) => all(members.as_slice(), tuple),
+        Expr::Not(arg) => truth_over(arg.get(), tuple).not(),
         Expr::Compare { op, left, right } => {
-            comparison(*op, value(left.get(), tuple), value(right.get(), tuple)).value()
+            comparison(*op, value(left.get(), tuple), value(right.get(), tuple))
         }
         Expr::IsNull { arg, negated } => {
             let is_null = value(arg.get(), tuple).is_none();
-            Some(ValueRef::Bool(is_null != *negated))
+            Truth::of(Some(is_null != *negated))
         }
         Expr::Among {
             arg,
             members,
             negated,
-        } => {
-            let arg = value(arg.get(), tuple);
-            among(arg, members.as_slice(), tuple)
-                .unless(*negated)
-                .value()
-        }
+        } => among(value(arg.get(), tuple), members.as_slice(), tuple).unless(*negated),
         Expr::Between {
             arg,
             low,
@@ -59,19 +79,14 @@ pub(crate) fn value<'a>(expr: &'a Expr, tuple: &'a Tuple) -> Option<ValueRef<'a>
             let arg = value(arg.get(), tuple);
             let above = comparison(CompareOp::Ge, arg, value(low.get(), tuple));
             let below = comparison(CompareOp::Le, arg, value(high.get(), tuple));
-            above.and(below).unless(*negated).value()
+            above.and(below).unless(*negated)
         }
         Expr::Like {
             arg,
             pattern,
             negated,
-        } => likeness(value(arg.get(), tuple), pattern.text())
-            .unless(*negated)
-            .value(),
-        Expr::Sum(addends) => Some(ValueRef::Int(sum(addends.as_slice(), tuple)?)),
-        Expr::Product(members) => Some(ValueRef::Int(product(members.as_slice(), tuple)?)),
-        Expr::Minus(arg) => Some(ValueRef::Int(negative(number(arg.get(), tuple)?))),
-        Expr::AnyOf { .. } | Expr::CountAll | Expr::Aggregate { .. } => None,
+        } => likeness(value(arg.get(), tuple), pattern.text()).unless(*negated),
+        _ => Truth::Unknown,
     }
 }
 
@@ -84,7 +99,7 @@ fn any(members: &[Expr], tuple: &Tuple) -> Truth
 {
     let mut truth = Truth::False;
     for member in members {
-        truth = truth.or(Truth::of_value(value(member, tuple)));
+        truth = truth.or(truth_over(member, tuple));
         if let Truth::True = truth {
             return truth;
         }
@@ -101,7 +116,7 @@ fn all(members: &[Expr], tuple: &Tuple) -> Truth
 {
     let mut truth = Truth::True;
     for member in members {
-        truth = truth.and(Truth::of_value(value(member, tuple)));
+        truth = truth.and(truth_over(member, tuple));
         if let Truth::False = truth {
             return truth;
         }

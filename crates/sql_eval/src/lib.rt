@@ -7,6 +7,7 @@
 
 mod addend;
 mod arithmetic;
+mod copying;
 mod delete_plan;
 mod evaluation;
 mod expr;
@@ -18,6 +19,7 @@ mod lending;
 mod operators;
 mod out_row;
 mod pattern;
+mod plan_copying;
 mod row;
 mod rows;
 mod run;
@@ -40,7 +42,7 @@ pub use expr::Expr;
 pub use from_plan::FromPlan;
 pub use join_plan::JoinPlan;
 pub use key_plan::KeyPlan;
-pub use laws::resolving_keeps_meaning;
+pub use laws::{meanings_are_on_one_line, resolving_keeps_meaning};
 pub use out_row::OutRow;
 pub use pattern::like;
 pub use row::Row;

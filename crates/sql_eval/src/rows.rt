@@ -30,4 +30,12 @@ impl Rows {
     {
         self.items.as_slice()
     }
+
+    /// The rows, none of them copied.
+    pub fn into_vec(self) -> Vec<OutRow>
+        ensures exact { result.items ≡ self }
+    {
+        let Rows { items } = self;
+        items
+    }
 }

@@ -30,4 +30,12 @@ impl Tuples {
     {
         self.items.as_slice()
     }
+
+    /// The tuples, none of them copied.
+    pub fn into_vec(self) -> Vec<Tuple>
+        ensures exact { result.items ≡ self }
+    {
+        let Tuples { items } = self;
+        items
+    }
 }

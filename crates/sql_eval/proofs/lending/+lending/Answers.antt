@@ -1,13 +1,15 @@
-use Rattle.std.proofs.Common.{◌≡◌, ◌+◌, ◌*◌, ◌≤◌, true, nat_abs, neg_ℤ, if◌then◌else◌, Some, map, drop, length, sym, ap, ◌∙◌, rules, FitsSigned, to_z, of_z}
+use Rattle.std.proofs.Common.{◌≡◌, inl, inr, ◌+◌, ◌*◌, ◌≤◌, true, nat_abs, neg_ℤ, if◌then◌else◌, Some, map, drop, length, sym, ap, ◌∙◌, rules, FitsSigned, to_z, of_z}
 use Rattle.std.proofs.lemmas.Int.{to_z-of_z}
 use Rattle.std.specs.Int.{w128}
 use Rattle.sql_eval.specs.declared.expr.Expr.TheVariants as expr
+use Rattle.sql_eval.specs.Truth.{value_of}
 use Rattle.sql_eval.specs.Resolved.{value_over, added_over}
 use Rattle.sql_eval.specs.Operators.{number_of}
 use Rattle.sql_eval.specs.Widths.{width_of, width_in, bits_of}
 use Rattle.sql_eval.specs.Within.{IsNumberWithin}
 use Rattle.sql_eval.proofs.Numbers.{next, sum_fits, sum_next, sum_same, product_fits, product_next, product_same}
 use Rattle.sql_eval.proofs.Expressions.{width_in-is, added_over-is, signed_some, narrow-Minus, within_more}
+use Rattle.sql_eval.proofs.TestForms.{or_told, and_told, not_told, compare_told, null_told, among_told, between_told, like_told}
 use Rattle.sql_eval.proofs.lending.+lending.Goals as goal
 
 pub product-times-total-requires : goal.product-times-total-requires
@@ -86,10 +88,34 @@ sum-loop-addend-preserved t c =
 pub value-negative-requires : goal.value-negative-requires
 value-negative-requires t c =
     let k = length c.args.tuple.now in
-    let arg = c.get-in-Minus.result.now in
-    let whole : c.args.expr.now ≡ expr.Minus arg = c.in-Minus.is ∙ ap expr.Minus (sym c.get-in-Minus.ensures) in
+    let arg = c.get.result.now in
+    let whole : c.args.expr.now ≡ expr.Minus arg = c.in-Minus.is ∙ ap expr.Minus (sym c.get.ensures) in
     let narrow : (width_of k (expr.Minus arg)).narrow ≡ true = sym (ap (λ e. (width_of k e).narrow) whole) ∙ c.requires.narrow in
     let n = to_z w128 (of_z w128 c.in_ok-number-in-Minus.field-0) in
     let fits : FitsSigned w128 c.in_ok-number-in-Minus.field-0 = search rules in
     let inside : IsNumberWithin (width_of k arg).bits n = rw (to_z-of_z w128 c.in_ok-number-in-Minus.field-0 fits) c.in_ok-number-in-Minus.ensures.within in
     within_more (width_of k arg).bits 126 n (narrow-Minus k arg narrow) inside
+
+pub value-returns-in-Or-clause-exact : goal.value-returns-in-Or-clause-exact
+value-returns-in-Or-clause-exact t c =
+    let tuple = c.args.tuple.now in
+    let e = c.args.expr.now in
+    c.value.ensures.exact ∙ ap value_of c.truth_over.ensures.exact ∙ elim c.in-Or.is [
+      | inl h ↦ or_told tuple e h.0 h.1
+      | inr h ↦ elim h [
+        | inl h ↦ and_told tuple e h.0 h.1
+        | inr h ↦ elim h [
+          | inl h ↦ not_told tuple e h.0 h.1
+          | inr h ↦ elim h [
+            | inl h ↦ compare_told tuple e h.0 h.1 h.2 h.3
+            | inr h ↦ elim h [
+              | inl h ↦ null_told tuple e h.0 h.1 h.2
+              | inr h ↦ elim h [
+                | inl h ↦ among_told tuple e h.0 h.1 h.2 h.3
+                | inr h ↦ elim h [ inl h ↦ between_told tuple e h.0 h.1 h.2 h.3 h.4 | inr h ↦ like_told tuple e h.0 h.1 h.2 h.3 ]
+              ]
+            ]
+          ]
+        ]
+      ]
+    ]
