@@ -1,8 +1,11 @@
 pub mod Places
 pub mod Uses
+pub mod SameColumns
 pub mod Names
 pub mod Kinds
 pub mod Widths
 pub mod Written
 pub mod Fault
+pub mod Runnable
 pub mod Plan
+pub mod Steps

@@ -1,6 +1,5 @@
 -- The plan of a statement.
-use Rattle.std.specs.Prelude.{◌≡◌, ℕ, Bool, true, false, ◌&&◌, List, [], ◌∷◌, ◌++◌, map, Option, Some, None}
-use Rattle.std.specs.List.{list_all}
+use Rattle.std.specs.Prelude.{◌≡◌, ℕ, false, List, [], ◌∷◌, map, Option, Some, None}
 use Rattle.doc_values.specs.declared.kind.Kind.TheVariants as kind
 use Rattle.doc_values.specs.declared.col_ref.ColRef.{ColRef}
 use Rattle.sql_tree.specs.declared.select.Select.{Select}
@@ -9,29 +8,16 @@ use Rattle.sql_tree.specs.declared.term.Term.{Term}
 use Rattle.sql_eval.specs.declared.expr.Expr.{Expr}
 use Rattle.sql_eval.specs.declared.select_plan.SelectPlan.{SelectPlan}
 use Rattle.sql_eval.specs.Resolves.{Resolves, AllResolve}
-use Rattle.sql_eval.specs.Widths.{width_of, is_plain}
 use Rattle.type_rules.specs.declared.typed_statement.Typed as typed
 use Rattle.type_rules.specs.Places.{scope_of, item_terms, key_terms}
 use Rattle.type_rules.specs.Uses.{columns_of}
+use Rattle.type_rules.specs.Runnable.{CanBeRun}
 
 -- A condition resolves to one, where a truth value is wanted; there is one exactly where there is the other.
 abbrev pub ConditionResolves : List (List ℕ) → List (List ColRef) → Option Term → Option Expr → Type 0
 ConditionResolves scope refs None None = Unit {0}
 ConditionResolves scope refs (Some t) (Some e) = Resolves scope refs (Some kind.Bool) t e
 ConditionResolves scope refs _ _ = ⊥
-
--- A condition as a list.
-abbrev pub condition_exprs : Option Expr → List Expr
-condition_exprs None = []
-condition_exprs (Some e) = e ∷ []
-
--- All expressions of a plan.
-abbrev pub exprs_of : SelectPlan → List Expr
-exprs_of p = (p.items ++ condition_exprs p.test) ++ map (λ k. k.expr) p.keys
-
--- An expression over one table has no aggregate, no ANY, and no number of more than 126 bits.
-abbrev pub is_computed : Expr → Bool
-is_computed e = is_plain e && (width_of 1 e).narrow
 
 -- A plan of a question over one table: each expression is one to which its term resolves, over the columns that the question reads.
 pub record IsPlanOf (s : Select) (p : SelectPlan) : Type 0 where
@@ -48,10 +34,9 @@ pub record IsPlanOf (s : Select) (p : SelectPlan) : Type 0 where
   pub keys : AllResolve (scope_of s) p.refs (λ _. None) (key_terms s) (map (λ k. k.expr) p.keys)
   pub descending : map (λ k. k.descending) p.keys ≡ map (λ k. k.descending) s.keys
   pub limit : p.limit ≡ s.limit
-  pub computed : list_all is_computed (exprs_of p) ≡ true
 
--- What is made of a statement: a load as it stands, the plan of a question.
+-- What is made of a statement: a load as it stands, and of a question its plan, which can be run.
 abbrev pub IsTypedOf : statement.Statement → typed.Typed → Type 0
 IsTypedOf (statement.TheVariants.Load c j) (typed.TheVariants.Load collection json) = (collection ≡ c) × (json ≡ j)
-IsTypedOf (statement.TheVariants.Select s) (typed.TheVariants.Select p) = IsPlanOf s p
+IsTypedOf (statement.TheVariants.Select s) (typed.TheVariants.Select p) = IsPlanOf s p × CanBeRun p
 IsTypedOf _ _ = ⊥

@@ -7,11 +7,12 @@ use Rattle.doc_values.specs.declared.kind.Kind.TheVariants as kind
 use Rattle.doc_values.specs.declared.col_ref.ColRef.{ColRef}
 use Rattle.doc_values.specs.Order.{rank}
 use Rattle.sql_tree.specs.declared.agg_call.AggCall.TheVariants as agg_call
+use Rattle.sql_tree.specs.declared.addend.Addend.{Addend}
 use Rattle.sql_tree.specs.declared.reference.Ref.{Ref}
 use Rattle.sql_tree.specs.declared.select.Select.{Select}
 use Rattle.sql_tree.specs.declared.term.Term.{Term}
 use Rattle.sql_tree.specs.declared.term.Term.TheOpen.{Term-F, Addend-F}
-use Rattle.sql_tree.specs.declared.term.Term.TheFolds.{fold-Term}
+use Rattle.sql_tree.specs.declared.term.Term.TheFolds.{fold-Term, fold-Addend}
 use Rattle.sql_eval.specs.Kinds.{own_step, wanted_beside}
 use Rattle.type_rules.specs.Places.{Place, places_of}
 
@@ -75,6 +76,10 @@ reader_addend a = a.term.uses (Some kind.Int)
 -- A term as a part.
 abbrev pub reader_of : Term → Reader
 reader_of = fold-Term Reader (List Use) reader_step reader_addend
+
+-- The references of a member of a sum.
+abbrev pub addend_uses : Addend → List Use
+addend_uses = fold-Addend Reader (List Use) reader_step reader_addend
 
 -- The references of a term in its place.
 abbrev pub place_uses : Place → List Use

@@ -1,7 +1,6 @@
 -- The rule of widths.
 use Rattle.std.specs.Prelude.{ℕ, sum, Bool, List, [], ◌∷◌, length, Option, Some, None, if◌then◌else◌}
 use Rattle.std.specs.List.{list_all}
-use Rattle.doc_values.specs.declared.kind.Kind.TheVariants as kind
 use Rattle.sql_tree.specs.declared.addend.Addend.{Addend}
 use Rattle.sql_tree.specs.declared.select.Select.{Select}
 use Rattle.sql_tree.specs.declared.term.Term.{Term}
@@ -15,7 +14,7 @@ abbrev pub term_step : ℕ → Term-F Width Width → Width
 term_step tables (Term-F.Number n) = over 63 []
 term_step tables Term-F.Null = over 63 []
 term_step tables (Term-F.Column r) = over 63 []
-term_step tables (Term-F.Wanted kind.Int r) = over 63 []
+term_step tables (Term-F.Wanted k r) = over 63 []
 term_step tables (Term-F.Or ws) = over 0 ws
 term_step tables (Term-F.And ws) = over 0 ws
 term_step tables (Term-F.Not w) = over 0 (w ∷ [])

@@ -1,12 +1,13 @@
 -- What these rules need of a statement that a text spells.
 use Rattle.std.specs.Prelude.{◌≡◌, ℕ, nat_le, Bool, true, false, ◌&&◌, List, [], ◌∷◌, length, None}
 use Rattle.std.specs.List.{list_all}
+use Rattle.sql_tree.specs.declared.addend.Addend.{Addend}
 use Rattle.sql_tree.specs.declared.table.Table.{Table}
 use Rattle.sql_tree.specs.declared.select.Select.{Select}
 use Rattle.sql_tree.specs.declared.statement.Statement as statement
 use Rattle.sql_tree.specs.declared.term.Term.{Term}
 use Rattle.sql_tree.specs.declared.term.Term.TheOpen.{Term-F}
-use Rattle.sql_tree.specs.declared.term.Term.TheFolds.{fold-Term}
+use Rattle.sql_tree.specs.declared.term.Term.TheFolds.{fold-Term, fold-Addend}
 use Rattle.type_rules.specs.Places.{places_of}
 
 -- At least so many parts, each of them written.
@@ -22,7 +23,7 @@ written_step (Term-F.Not p) = p
 written_step (Term-F.Compare op p q) = p && q
 written_step (Term-F.IsNull p negated) = p
 written_step (Term-F.Among p ps negated) = p && at_least 1 ps
-written_step (Term-F.Between p low high negated) = p && (low && high)
+written_step (Term-F.Between p low high negated) = (p && low) && high
 written_step (Term-F.Like p pattern negated) = p
 written_step (Term-F.Sum ps) = at_least 2 ps
 written_step (Term-F.Product ps) = at_least 2 ps
@@ -35,6 +36,10 @@ written_step _ = true
 -- Whether a text may spell a term.
 abbrev pub is_written : Term → Bool
 is_written = fold-Term Bool Bool written_step (λ a. a.term)
+
+-- The same of a member of a sum.
+abbrev pub is_written_in : Addend → Bool
+is_written_in = fold-Addend Bool Bool written_step (λ a. a.term)
 
 -- A question that a text spells: one table, which nothing joins or groups, and terms that are written.
 pub record IsQuestion (s : Select) : Type 0 where

@@ -5,10 +5,15 @@
 //! Read `specs/Fault.antt` first, then `specs/Names.antt`, `specs/Kinds.antt`, `specs/Widths.antt` and `specs/Plan.antt`.
 #![tactic(auto)]
 
+mod column;
+mod columns;
 mod fitting;
 mod own_kinds;
 mod place;
+mod plan_parts;
+mod planning;
 mod references;
+mod resolving;
 mod rules;
 mod rules_kept;
 mod type_fault;

@@ -2,8 +2,10 @@ ghost use Rattle.std.specs.Prelude.{◌≡◌, ◌⊎◌, None, IfOk, IfErr};
 ghost use Rattle.type_rules.specs.Written.{IsWritten, IsQuestion};
 ghost use Rattle.type_rules.specs.Fault.{fault_of, question_fault};
 ghost use Rattle.type_rules.specs.Plan.{IsTypedOf, IsPlanOf};
+ghost use Rattle.type_rules.specs.Runnable.{CanBeRun};
 
 use crate::place::places;
+use crate::planning::plan;
 use crate::rules_kept::keep_rules;
 use crate::type_fault::TypeFault;
 use crate::typed_statement::Typed;
@@ -33,19 +35,10 @@ pub fn typed(alloc: Global, statement: &Statement) -> Result<Typed, TypeFault>
 // The plan of a question, or the first rule that it breaks.
 fn typed_select(alloc: Global, select: &Select) -> Result<SelectPlan, TypeFault>
     requires question { IsQuestion select.now }
-    ensures ok { IfOk result (λ plan. (question_fault select.now ≡ None) × IsPlanOf select.now plan) }
+    ensures ok { IfOk result (λ plan. (question_fault select.now ≡ None) × IsPlanOf select.now plan × CanBeRun plan) }
     ensures err { IfErr result (λ fault. (fault ≡ TypeFault.Memory) ⊎ (question_fault select.now ≡ Some fault)) }
 {
     let places = places(alloc, select)?;
     keep_rules(select, places.as_slice())?;
-    plan(alloc, select)
-}
-
-// The plan of a question that keeps the rules.
-fn plan(_alloc: Global, _select: &Select) -> Result<SelectPlan, TypeFault>
-    requires question { IsQuestion _select.now }
-    ensures ok { IfOk result (λ plan. IsPlanOf _select.now plan) }
-    ensures err { IfErr result (λ fault. fault ≡ TypeFault.Memory) }
-{
-    Err(TypeFault::Memory)
+    Ok(plan(alloc, select)?)
 }

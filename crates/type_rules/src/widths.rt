@@ -2,7 +2,6 @@ ghost use Rattle.std.specs.Prelude.{◌≡◌, ℕ, ◌≤◌, ◌<◌, List, []
 ghost use Rattle.sql_eval.specs.Widths.{over, sum_bits, sum_bits_from, bits_of, aggregate_bits};
 ghost use Rattle.type_rules.specs.Widths.{term_width, addend_width, narrow_bits, bits_on};
 
-use doc_values::Kind;
 use sql_tree::{Addend, AggCall, Term};
 
 // No number that is computed needs more bits.
@@ -15,11 +14,8 @@ pub(crate) fn width(term: &Term) -> Option<u32>
     ensures few { IfSome result (λ bits. bits ≤ 126) }
 {
     match term {
-        Term::Number(_) | Term::Null | Term::Column(_) | Term::CountAll => Some(63),
-        Term::Wanted { kind, .. } => match kind {
-            Kind::Int => Some(63),
-            Kind::Bool | Kind::Text | Kind::Array | Kind::Object => Some(0),
-        },
+        Term::Number(_) | Term::Null | Term::Column(_) | Term::Wanted { .. } | Term::CountAll =>
+            Some(63),
         Term::Text(_) | Term::Bool(_) => Some(0),
         Term::Or(members) => all_narrow(members.as_slice()),
         Term::And(members) => all_narrow(members.as_slice()),

@@ -1,0 +1,5 @@
+pub mod WrittenTerms
+pub mod WrittenChains
+pub mod WrittenExpressions
+pub mod WrittenQuestions
+pub mod WrittenTexts

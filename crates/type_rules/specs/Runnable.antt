@@ -1,0 +1,50 @@
+-- What is needed to run a plan.
+use Rattle.std.specs.Prelude.{◌≡◌, Bool, true, ◌&&◌, List, length, Option, is_some, option_and_then, slice_get, IfSome}
+use Rattle.std.specs.List.{All, list_all}
+use Rattle.doc_values.specs.declared.col_ref.ColRef.{ColRef}
+use Rattle.sql_eval.specs.declared.slot.Slot.{Slot}
+use Rattle.sql_eval.specs.declared.expr.Expr.{Expr}
+use Rattle.sql_eval.specs.declared.expr.Expr.TheOpen.{Expr-F}
+use Rattle.sql_eval.specs.declared.expr.Expr.TheFolds.{fold-Expr}
+use Rattle.sql_eval.specs.declared.select_plan.SelectPlan.{SelectPlan}
+use Rattle.sql_eval.specs.Widths.{width_of, is_plain}
+
+-- One level of an expression: whether each slot in it passes a test.
+abbrev pub slots_step : (Slot → Bool) → Expr-F Bool Bool → Bool
+slots_step test (Expr-F.Column slot) = test slot
+slots_step test (Expr-F.Wanted k slot) = test slot
+slots_step test (Expr-F.Or es) = list_all (λ e. e) es
+slots_step test (Expr-F.And es) = list_all (λ e. e) es
+slots_step test (Expr-F.Not e) = e
+slots_step test (Expr-F.Compare op e f) = e && f
+slots_step test (Expr-F.IsNull e negated) = e
+slots_step test (Expr-F.Among e es negated) = e && list_all (λ e. e) es
+slots_step test (Expr-F.Between e low high negated) = e && (low && high)
+slots_step test (Expr-F.Like e pattern negated) = e
+slots_step test (Expr-F.AnyOf e slot) = e && test slot
+slots_step test (Expr-F.Sum es) = list_all (λ e. e) es
+slots_step test (Expr-F.Product es) = list_all (λ e. e) es
+slots_step test (Expr-F.Minus e) = e
+slots_step test (Expr-F.Aggregate call e) = e
+slots_step test _ = true
+
+-- Each slot of an expression passes a test.
+abbrev pub every_slot : (Slot → Bool) → Expr → Bool
+every_slot test = fold-Expr Bool Bool (slots_step test) (λ a. a.expr)
+
+-- A slot is the place of a column that is read of its table.
+abbrev pub is_column : List (List ColRef) → Slot → Bool
+is_column refs slot = is_some (option_and_then (λ columns. slice_get columns slot.column) (slice_get refs slot.table))
+
+-- An expression is computed from one row of each table: it has no aggregate and no ANY, no number in it needs more than 126 bits, and it reads columns alone that are read of the tables.
+pub record IsComputed (refs : List (List ColRef)) (e : Expr) : Type 0 where
+  pub plain : is_plain e ≡ true
+  pub narrow : (width_of (length refs) e).narrow ≡ true
+  pub slots : every_slot (is_column refs) e ≡ true
+
+-- A plan can be run: it lists columns for each table, and each of its expressions is computed from them.
+pub record CanBeRun (p : SelectPlan) : Type 0 where
+  pub refs : length p.refs ≡ length p.from.tables
+  pub test : IfSome p.test (IsComputed p.refs)
+  pub items : All (IsComputed p.refs) p.items
+  pub keys : All (λ k. IsComputed p.refs k.expr) p.keys

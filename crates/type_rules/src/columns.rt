@@ -1,0 +1,66 @@
+ghost use Rattle.std.specs.Prelude.{◌≡◌, [], IfOk, OnOk};
+ghost use Rattle.type_rules.specs.Uses.{noted};
+ghost use Rattle.type_rules.specs.Steps.{IsPlaceOf};
+
+use crate::column::Column;
+use doc_values::{ColRef, Kind};
+use indexmap::IndexSet;
+use sql_eval::Slot;
+use sql_tree::Ref;
+use sqlite_items::Items;
+use std::alloc::{AllocError, Global};
+use std::marker::Model;
+
+// The columns to which references were noted, each once, in the order of the first references.
+#[derive(Drop)]
+pub(crate) struct Columns {
+    set: IndexSet<Column>,
+}
+
+impl Model for Columns {
+    ghost use Rattle.std.specs.Prelude.{List, map};
+    ghost use Rattle.doc_values.specs.declared.col_ref.ColRef.{ColRef as Read};
+
+    ghost Value = { List Read };
+
+    ghost view = { λ c. map (λ k. k.column) c.set.keys };
+}
+
+impl Columns {
+    pub(crate) fn new(alloc: Global) -> Columns
+        ensures exact { result ≡ [] }
+    {
+        Columns {
+            set: IndexSet::new(alloc),
+        }
+    }
+
+    // Notes a reference of which a kind is wanted, or none, and gives the place of its column.
+    pub(crate) fn note(&mut self, reference: &Ref, want: Option<Kind>) -> Result<Slot, AllocError>
+        ensures noted { OnOk result (self.new ≡ noted self.old (record { ref = reference.now; want = want })) }
+        ensures place { IfOk result (λ slot. IsPlaceOf self.new reference.now want slot) }
+    {
+        let column = Column {
+            column: ColRef {
+                name: reference.name.copy()?,
+                want,
+            },
+        };
+        let (place, _) = self.set.insert_full(column)?;
+        let Ok(column) = u32::try_from(place) else {
+            return Err(AllocError);
+        };
+        Ok(Slot { table: 0, column })
+    }
+
+    // The columns as a list of their own.
+    pub(crate) fn to_items(&self, alloc: Global) -> Result<Items<ColRef>, AllocError>
+        ensures ok { IfOk result (λ columns. columns ≡ self.now) }
+    {
+        let mut columns = Items::new(alloc);
+        for column in self.set.as_slice() {
+            columns.push(column.column.copy()?)?;
+        }
+        Ok(columns)
+    }
+}
