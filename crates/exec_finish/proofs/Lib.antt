@@ -1,0 +1,5 @@
+pub mod Places
+pub mod Firsts
+pub mod Sorting
+pub mod Comparing
+pub mod WholeLines

@@ -1,0 +1,7 @@
+use Rattle.std.proofs.Common.{◌≡◌, fold, flat_map, drop}
+use Rattle.exec_finish.specs.Fed.{value_fed}
+use Rattle.exec_finish.proofs.feeding.feed_items.Given as goal
+
+abbrev pub invariant-loop-item : goal.invariant-loop-item
+invariant-loop-item g l =
+    fold g.H.Hasher.write l.state (flat_map value_fed (drop l.item-index l.items)) ≡ fold g.H.Hasher.write l.fn.state (flat_map value_fed l.items)

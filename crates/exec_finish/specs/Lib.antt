@@ -1,0 +1,7 @@
+pub mod Plain
+pub mod Distinct
+pub mod Order
+pub mod Answer
+pub mod Lines
+pub mod Fed
+pub mod SameRows
