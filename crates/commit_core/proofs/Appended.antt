@@ -5,7 +5,7 @@ use Rattle.std.specs.List.{AllByRecursion}
 use Rattle.std.proofs.lemmas.List.{map-append, append_assoc}
 use Rattle.std.proofs.lemmas.Option.{get_or_from_slice_get, slice_get_within}
 use Rattle.std.proofs.lemmas.List.Elements.{All-weaker, All-push, recursion_from_All}
-use Rattle.doc_values.specs.Doc.{Fields, value_at, with_field}
+use Rattle.doc_values.specs.Doc.{Fields, with_field}
 use Rattle.std.specs.Option.{option_map_or}
 use Rattle.doc_values.specs.declared.kind.Kind.{Kind}
 use Rattle.doc_values.specs.Value.{IsStorable}
@@ -15,8 +15,8 @@ use Rattle.reservoir_record.specs.declared.fields.Field.{Field}
 use Rattle.reservoir_record.specs.Spelling.{values}
 use Rattle.attr_catalog.specs.Attribute.{Attribute}
 use Rattle.commit_core.specs.Write.{with_fields}
-use Rattle.commit_core.specs.StoredValue.{value_in, bytes_of, AreReadable}
-use Rattle.commit_core.specs.StoredDocument.{Pairs, pairs_of, with_stored, document_stored, IsHeld, IsKept}
+use Rattle.commit_core.specs.StoredValue.{value_in, bytes_of}
+use Rattle.commit_core.specs.StoredDocument.{Pairs, pairs_of, with_stored, document_stored, IsStored, IsHeld, IsKept}
 use Rattle.commit_core.specs.Loading.{HasGrown, HasFront, HasDocuments, documents_stored, field_of, fields_of}
 use Rattle.commit_core.proofs.Pairs.{Stays, stays, documents_more, documents_upto}
 use Rattle.commit_core.proofs.Entries.{take_all_of, take_plus}
@@ -51,12 +51,12 @@ front_twice a b c g h = record {
 
 -- ---- pairs that stay
 
-held_by : (old new : Pairs) → Stays old new → (d : Fields) (f : Field) (o : Option (List ℕ × Kind)) → slice_get old f.id ≡ o → MatchOption o ⊥ (λ (p : List ℕ × Kind). AreReadable p.1 f.bytes × (value_at p.0 d ≡ Some (value_in p.1 f.bytes)))
+held_by : (old new : Pairs) → Stays old new → (d : Fields) (f : Field) (o : Option (List ℕ × Kind)) → slice_get old f.id ≡ o → MatchOption o ⊥ (IsStored d f.bytes)
     → IsHeld new d f × (slice_get new f.id ≡ slice_get old f.id)
 held_by old new s d f None e h = absurd h
 held_by old new s d f (Some p) e h =
     let at : slice_get new f.id ≡ Some p = s f.id p e in
-    (subst (λ (o : Option (List ℕ × Kind)). MatchOption o ⊥ (λ (q : List ℕ × Kind). AreReadable q.1 f.bytes × (value_at q.0 d ≡ Some (value_in q.1 f.bytes)))) (sym at) h, at ∙ sym e)
+    (subst (λ (o : Option (List ℕ × Kind)). MatchOption o ⊥ (IsStored d f.bytes)) (sym at) h, at ∙ sym e)
 
 held_stays : (old new : Pairs) → Stays old new → (d : Fields) (f : Field) → IsHeld old d f → IsHeld new d f × (slice_get new f.id ≡ slice_get old f.id)
 held_stays old new s d f h = held_by old new s d f (slice_get old f.id) refl h

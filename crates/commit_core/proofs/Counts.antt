@@ -12,11 +12,9 @@ use Rattle.reservoir_record.specs.declared.fields.Field.{Field}
 use Rattle.reservoir_record.specs.Spelling.{Ascends, AreFields}
 use Rattle.attr_catalog.specs.Attribute.{Attribute, raised}
 use Rattle.attr_catalog.specs.Catalog.{changed, number}
-use Rattle.commit_core.specs.State.{most_versions}
-use Rattle.doc_values.specs.Doc.{value_at}
-use Rattle.commit_core.specs.StoredValue.{value_in, AreReadable}
-use Rattle.commit_core.specs.StoredDocument.{Pairs, pairs_of, document_stored, IsHeld, IsKept, has_number, holders}
-use Rattle.commit_core.specs.Loading.{HasCounted}
+use Rattle.attr_catalog.specs.Catalog.{most_versions}
+use Rattle.commit_core.specs.StoredDocument.{Pairs, pairs_of, document_stored, IsStored, IsHeld, IsKept, has_number, holders}
+use Rattle.commit_core.specs.Loading.{with_count, HasCounted}
 use Rattle.commit_core.proofs.StoredFields.{pair_at, attribute_at}
 use Rattle.commit_core.proofs.Entries.{take_plus}
 use Rattle.commit_core.proofs.Appended.{all_at}
@@ -97,12 +95,17 @@ mate old new id b e at =
 pub record IsCountedUpto (fields : List Field) (place : ℕ) (old new : List Attribute) : Type 0 where
   pub pairs : pairs_of new ≡ pairs_of old
   pub counts : (id : ℕ) (a b : Attribute) → slice_get old id ≡ Some a → slice_get new id ≡ Some b → b.count + held id (drop place fields) ≡ a.count + held id fields
+  pub alike : (id : ℕ) (a b : Attribute) → slice_get old id ≡ Some a → slice_get new id ≡ Some b → b ≡ with_count a b.count
 
 counted_none : (fields : List Field) (old : List Attribute) (id : ℕ) (a b : Attribute) → slice_get old id ≡ Some a → slice_get old id ≡ Some b → b.count + held id fields ≡ a.count + held id fields
 counted_none fields old id a b p q = let same : b ≡ a = same_Some b a (sym q ∙ p) in ap (λ (x : Attribute). x.count + held id fields) same
 
 pub upto_none : (fields : List Field) (old : List Attribute) → IsCountedUpto fields 0 old old
-upto_none fields old = record { pairs = refl; counts = counted_none fields old }
+upto_none fields old = record {
+  pairs = refl;
+  counts = counted_none fields old;
+  alike = λ id a b p q. let same : b ≡ a = same_Some b a (sym q ∙ p) in same ∙ ap (λ (x : Attribute). with_count a x.count) (sym same);
+}
 
 drop_past : (fs : List Field) → drop (length fs) fs ≡ []
 drop_past [] = refl
@@ -119,7 +122,8 @@ upto_all fields old new h = record {
       let told : b.count + held id (drop (length fields) fields) ≡ a.count + held id fields = h.counts id a b p q in
       let none : held id (drop (length fields) fields) ≡ 0 = ap (held id) (drop_past fields) in
       let one : holders id (fields ∷ []) ≡ held id fields = one_holder id fields (has_number id fields) in
-      omega arith;
+      let many : b.count ≡ a.count + holders id (fields ∷ []) = omega arith in
+      h.alike id a b p q ∙ ap (with_count a) many;
 }
 
 -- a field among kept ones has its attribute
@@ -130,7 +134,7 @@ attribute_by attributes id P (Some pair) e h = let found = attribute_at attribut
 has_attribute : (attributes : List Attribute) (fields : List Field) (k : ℕ) (f : Field) → IsKept (pairs_of attributes) fields → slice_get fields k ≡ Some f → (a : Attribute) × (slice_get attributes f.id ≡ Some a)
 has_attribute attributes fields k f kept at =
     attribute_by attributes f.id
-    (λ (pair : List ℕ × Kind). AreReadable pair.1 f.bytes × (value_at pair.0 (document_stored (pairs_of attributes) fields) ≡ Some (value_in pair.1 f.bytes)))
+    (IsStored (document_stored (pairs_of attributes) fields) f.bytes)
     (slice_get (pairs_of attributes) f.id) refl (all_at (IsHeld (pairs_of attributes) (document_stored (pairs_of attributes) fields)) fields k f kept at)
 
 module _ (fields : List Field) (s : AreFields fields) (k : ℕ) (f : Field) (at : slice_get fields k ≡ Some f) (old cur : List Attribute) (h : IsCountedUpto fields k old cur) (b : Attribute) (here : slice_get cur f.id ≡ Some b) where
@@ -166,6 +170,21 @@ module _ (fields : List Field) (s : AreFields fields) (k : ℕ) (f : Field) (at 
       let less : held id (drop k fields) ≡ held id (drop (suc k) fields) = ap (held id) (drops fields k f at) ∙ held_other id f (drop (suc k) fields) ne in
       omega arith
 
+  alike_same : (id : ℕ) (a c : Attribute) → f.id ≡ id → slice_get old id ≡ Some a → slice_get (changed raised (number f.id) cur) id ≡ Some c → c ≡ with_count a c.count
+  alike_same id a c e p q =
+      let now : slice_get (changed raised (number f.id) cur) f.id ≡ Some (raised b) = ap (λ (xs : List Attribute). slice_get xs f.id) (changed_is cur (number f.id) b here) ∙ set_same cur f.id b (raised b) here in
+      let is : c ≡ raised b = same_Some c (raised b) (sym q ∙ ap (slice_get (changed raised (number f.id) cur)) (sym e) ∙ now) in
+      let before : b ≡ with_count a b.count = h.alike f.id a b (ap (slice_get old) e ∙ p) here in
+      let count : b.count + 1 ≡ c.count = ap (λ (x : Attribute). x.count) (sym is) in
+      is ∙ ap raised before ∙ ap (with_count a) count
+
+  alike_other : (id : ℕ) (a c : Attribute) → f.id ≢ id → slice_get old id ≡ Some a → slice_get (changed raised (number f.id) cur) id ≡ Some c → c ≡ with_count a c.count
+  alike_other id a c ne p q = h.alike id a c p (sym (ap (λ (xs : List Attribute). slice_get xs id) (changed_is cur (number f.id) b here) ∙ set_other cur f.id id (raised b) ne) ∙ q)
+
+  alike_by : (id : ℕ) (a c : Attribute) (t : Bool) → f.id == id ≡ t → slice_get old id ≡ Some a → slice_get (changed raised (number f.id) cur) id ≡ Some c → c ≡ with_count a c.count
+  alike_by id a c true e p q = alike_same id a c (grind (arith, nat_tests)) p q
+  alike_by id a c false e p q = alike_other id a c (λ same. let tested : f.id == id ≡ true = grind (arith, nat_tests) in absurd (let both : true ≡ false = sym tested ∙ e in cc)) p q
+
   after_by : (id : ℕ) (a c : Attribute) (t : Bool) → f.id == id ≡ t → slice_get old id ≡ Some a → slice_get (changed raised (number f.id) cur) id ≡ Some c → c.count + held id (drop (suc k) fields) ≡ a.count + held id fields
   after_by id a c true e p q = after_same id a c (grind (arith, nat_tests)) p q
   after_by id a c false e p q = after_other id a c (λ same. let tested : f.id == id ≡ true = grind (arith, nat_tests) in absurd (let both : true ≡ false = sym tested ∙ e in cc)) p q
@@ -176,6 +195,7 @@ module _ (fields : List Field) (s : AreFields fields) (k : ℕ) (f : Field) (at 
       subst (λ (n : ℕ). IsCountedUpto fields n old (changed raised (number f.id) cur)) (sym one) (record {
         pairs = ap pairs_of (changed_is cur (number f.id) b here) ∙ set_pairs cur f.id b here ∙ h.pairs;
         counts = λ id a c p q. after_by id a c (f.id == id) refl p q;
+        alike = λ id a c p q. alike_by id a c (f.id == id) refl p q;
       })
 
 -- ---- by the number at a place
@@ -223,7 +243,10 @@ holders_few id [] = omega arith
 holders_few id (fs ∷ more) = few_by (length more) fs (filter (has_number id) more) (has_number id fs) (holders_few id more)
 
 pub counted_nothing : (list : List Attribute) → HasCounted [] list list
-counted_nothing list = record { pairs = refl; counts = λ id a b p q. let same : b ≡ a = same_Some b a (sym q ∙ p) in let count : b.count ≡ a.count = ap (λ (x : Attribute). x.count) same in omega arith }
+counted_nothing list = record {
+  pairs = refl;
+  counts = λ id a b p q. let count : a.count ≡ a.count + 0 = omega arith in same_Some b a (sym q ∙ p) ∙ ap (with_count a) count;
+}
 
 pub counted_more : (first old new : List Attribute) (records : List (List Field)) (k : ℕ) (fs : List Field) → slice_get records k ≡ Some fs → HasCounted (take k records) first old → HasCounted (fs ∷ []) old new → HasCounted (take (k + 1) records) first new
 counted_more first old new records k fs at g h = record {
@@ -231,7 +254,8 @@ counted_more first old new records k fs at g h = record {
   counts = λ id a c p q.
       let b = mate old new id c h.pairs q in
       let more : holders id (take (k + 1) records) ≡ holders id (take k records) + holders id (fs ∷ []) = ap (holders id) (take_plus records k fs at) ∙ holders_more id (take k records) fs in
-      omega (arith, g.counts id a b.0 p b.1, h.counts id b.0 c b.1 q);
+      let sum : a.count + holders id (take k records) + holders id (fs ∷ []) ≡ a.count + holders id (take (k + 1) records) = omega arith in
+      h.counts id b.0 c b.1 q ∙ ap (λ (x : Attribute). with_count x (x.count + holders id (fs ∷ []))) (g.counts id a b.0 p b.1) ∙ ap (with_count a) sum;
 }
 
 -- there is room for one more
@@ -239,7 +263,7 @@ pub still_room : (first old : List Attribute) (records : List (List Field)) (k :
     → (id : ℕ) (b : Attribute) → slice_get old id ≡ Some b → b.count < most_versions
 still_room first old records k lt room g id b at =
     let a = mate first old id b g.pairs at in
-    omega (arith, g.counts id a.0 b a.1 at, room id a.0 a.1, holders_few id (take k records), length_of_take records k)
+    omega (arith, ap (λ (x : Attribute). x.count) (g.counts id a.0 b a.1 at), room id a.0 a.1, holders_few id (take k records), length_of_take records k)
   where
     length_of_take : {X : Type 0} (xs : List X) (k : ℕ) → length (take k xs) ≤ k
     length_of_take [] zero = omega arith

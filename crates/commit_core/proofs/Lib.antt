@@ -1,7 +1,3 @@
-pub mod Cuts
-pub mod Runs
-pub mod Spellings
-pub mod Readings
 pub mod Loads
 pub mod Agreements
 pub mod WholeLines
@@ -15,6 +11,9 @@ mod Appended
 mod Counts
 mod TableLoads
 pub mod PairsOnce
+pub mod PairsHeld
 pub mod Places
 pub mod Lights
-pub mod Quotes
+mod StoredRows
+mod WholeDocuments
+mod Answered

@@ -5,7 +5,7 @@ use Rattle.std.specs.List.{position_or_len, list_any}
 use Rattle.std.specs.Str.{bytes_eq}
 use Rattle.std.proofs.lemmas.Bool.Decides.{nat_tests}
 use Rattle.std.proofs.lemmas.List.{map-append, length-map}
-use Rattle.std.proofs.lemmas.List.Elements.{All-nil, All-cons, All-head, All-tail}
+use Rattle.std.proofs.lemmas.List.Elements.{All-nil, All-cons, All-head, All-tail, All-weaker}
 use Rattle.doc_values.specs.Doc.{Fields}
 use Rattle.doc_values.specs.Order.{rank}
 use Rattle.doc_values.specs.Value.{kind_of}
@@ -18,7 +18,7 @@ use Rattle.attr_catalog.specs.Catalog.{is_of, number, id_of}
 use Rattle.attr_catalog.specs.Catalog as catalog
 use Rattle.commit_core.specs.Write.{same_kind, same_pair, with_pair, with_fields}
 use Rattle.commit_core.specs.StoredDocument.{Pairs, pairs_of}
-use Rattle.commit_core.specs.Loading.{HasGrown}
+use Rattle.commit_core.specs.Loading.{IsFresh, HasGrown}
 use Rattle.commit_core.proofs.StoredFields.{stands_for, pair_at}
 
 -- ---- whether a pair stands
@@ -170,38 +170,42 @@ take_less [] (suc m) (suc n) h = refl
 take_less (x ∷ xs) (suc m) (suc n) h = ap (λ ys. x ∷ ys) (take_less xs m n (omega arith))
 
 -- what stands behind the first of three
-unheld_drop : (xs : List Attribute) (m n : ℕ) → m ≤ n → All (λ (a : Attribute). a.count ≡ 0) (drop m (take n xs)) → All (λ (a : Attribute). a.count ≡ 0) (drop n xs) → All (λ (a : Attribute). a.count ≡ 0) (drop m xs)
-unheld_drop xs zero zero l p q = q
-unheld_drop [] zero (suc n) l p q = q
-unheld_drop (x ∷ xs) zero (suc n) l p q =
-    All-cons (λ (a : Attribute). a.count ≡ 0) x xs (All-head (λ (a : Attribute). a.count ≡ 0) x (take n xs) p)
-    (drop_none xs (unheld_drop xs zero n (omega arith) (none_dropped (take n xs) (All-tail (λ (a : Attribute). a.count ≡ 0) x (take n xs) p)) q))
+begun_drop : (xs : List Attribute) (m n : ℕ) → m ≤ n → All IsFresh (drop m (take n xs)) → All IsFresh (drop n xs) → All IsFresh (drop m xs)
+begun_drop xs zero zero l p q = q
+begun_drop [] zero (suc n) l p q = q
+begun_drop (x ∷ xs) zero (suc n) l p q =
+    All-cons IsFresh x xs (All-head IsFresh x (take n xs) p)
+    (drop_none xs (begun_drop xs zero n (omega arith) (none_dropped (take n xs) (All-tail IsFresh x (take n xs) p)) q))
   where
-    drop_none : (xs : List Attribute) → All (λ (a : Attribute). a.count ≡ 0) (drop 0 xs) → All (λ (a : Attribute). a.count ≡ 0) xs
+    drop_none : (xs : List Attribute) → All IsFresh (drop 0 xs) → All IsFresh xs
     drop_none [] h = h
     drop_none (x ∷ xs) h = h
 
-    none_dropped : (xs : List Attribute) → All (λ (a : Attribute). a.count ≡ 0) xs → All (λ (a : Attribute). a.count ≡ 0) (drop 0 xs)
+    none_dropped : (xs : List Attribute) → All IsFresh xs → All IsFresh (drop 0 xs)
     none_dropped [] h = h
     none_dropped (x ∷ xs) h = h
-unheld_drop xs (suc m) zero l p q = absurd (omega arith)
-unheld_drop [] (suc m) (suc n) l p q = q
-unheld_drop (x ∷ xs) (suc m) (suc n) l p q = unheld_drop xs m n (omega arith) p q
+begun_drop xs (suc m) zero l p q = absurd (omega arith)
+begun_drop [] (suc m) (suc n) l p q = q
+begun_drop (x ∷ xs) (suc m) (suc n) l p q = begun_drop xs m n (omega arith) p q
 
 pub grown_itself : (list : List Attribute) → HasGrown list list
-grown_itself list = record { front = take_whole list; unheld = none_behind list; longer = omega arith }
+grown_itself list = record { front = take_whole list; begun = none_behind list; longer = omega arith }
   where
     take_whole : (xs : List Attribute) → take (length xs) xs ≡ xs
     take_whole [] = refl
     take_whole (x ∷ xs) = ap (λ ys. x ∷ ys) (take_whole xs)
 
-    none_behind : (xs : List Attribute) → All (λ (a : Attribute). a.count ≡ 0) (drop (length xs) xs)
-    none_behind [] = All-nil (λ (a : Attribute). a.count ≡ 0)
+    none_behind : (xs : List Attribute) → All IsFresh (drop (length xs) xs)
+    none_behind [] = All-nil IsFresh
     none_behind (x ∷ xs) = none_behind xs
 
 pub grown_twice : (a b c : List Attribute) → HasGrown a b → HasGrown b c → HasGrown a c
 grown_twice a b c g h = record {
   front = sym (take_less c (length a) (length b) g.longer) ∙ ap (take (length a)) h.front ∙ g.front;
-  unheld = unheld_drop c (length a) (length b) g.longer (subst (λ (xs : List Attribute). All (λ (x : Attribute). x.count ≡ 0) (drop (length a) xs)) (sym h.front) g.unheld) h.unheld;
+  begun = begun_drop c (length a) (length b) g.longer (subst (λ (xs : List Attribute). All IsFresh (drop (length a) xs)) (sym h.front) g.begun) h.begun;
   longer = omega (arith, g.longer, h.longer);
 }
+
+-- those behind are held by no document
+pub unheld : (old new : List Attribute) → HasGrown old new → All (λ (a : Attribute). a.count ≡ 0) (drop (length old) new)
+unheld old new g = All-weaker IsFresh (λ (a : Attribute). a.count ≡ 0) (λ (a : Attribute) (f : IsFresh a). ap (λ (x : Attribute). x.count) f) (drop (length old) new) g.begun

@@ -27,7 +27,7 @@ use Rattle.attr_catalog.specs.Attribute.{Attribute}
 use Rattle.reservoir_record.specs.declared.fields.Field.{Field}
 use Rattle.reservoir_record.specs.Spelling.{Ascends, AreFields, numbers, values}
 use Rattle.commit_core.specs.StoredValue.{bytes_of, value_in, AreReadable}
-use Rattle.commit_core.specs.StoredDocument.{Pairs, pairs_of, with_stored, document_stored, IsHeld, IsKept}
+use Rattle.commit_core.specs.StoredDocument.{Pairs, pairs_of, with_stored, document_stored, IsStored, IsHeld, IsKept}
 use Rattle.commit_core.specs.Loading.{HaveEntries, field_of, fields_of}
 use Rattle.commit_core.proofs.StoredValues.{reads_back}
 use Rattle.commit_core.proofs.StoredFields.{same_or_not, contains_head, contains_later, stored_here, stored_other}
@@ -269,8 +269,12 @@ module _ (puts : PutsAlone) (kept : StaysDocument) (pairs : Pairs) where
 
     held_by : (x : Field) → Holds pairs d x → IsHeld pairs d x
     held_by x w =
-        subst (λ (o : Option (List ℕ × Kind)). MatchOption o ⊥ (λ (p : List ℕ × Kind). AreReadable p.1 x.bytes × (value_at p.0 d ≡ Some (value_in p.1 x.bytes)))) (sym w.1.0)
-        (subst (AreReadable (kind_of w.0.1)) (sym w.1.1) w.1.2, w.2 ∙ ap (λ (v : Value). Some v) (sym (value_held pairs d x w)))
+        let stands : IsStored d x.bytes (w.0.0, kind_of w.0.1) = record {
+          readable = subst (AreReadable (kind_of w.0.1)) (sym w.1.1) w.1.2;
+          stands = w.2 ∙ ap (λ (v : Value). Some v) (sym (value_held pairs d x w));
+          written = w.1.1 ∙ ap bytes_of (sym (value_held pairs d x w));
+        } in
+        subst (λ (o : Option (List ℕ × Kind)). MatchOption o ⊥ (IsStored d x.bytes)) (sym w.1.0) stands
 
     pub is_kept : IsKept pairs ys
     is_kept = subst (λ (e : Fields). All (IsHeld pairs e) ys) (sym stands_again) (All-weaker (Holds pairs d) (IsHeld pairs d) held_by ys all_held)

@@ -1,24 +1,39 @@
 -- The state after commits keeps the rules of a state.
-use Rattle.std.proofs.Common.{◌≡◌, ◌≢◌, ℕ, zero, suc, ◌+◌, ◌<◌, ◌≤◌, nat_lt, cond, Bool, true, false, List, [], ◌∷◌, ◌++◌, length, fold, Option, Some, None, Result, Ok, Err, refl, sym, ap, ◌∙◌, subst, arith}
+use Rattle.std.proofs.Common.{◌≡◌, ◌≢◌, ℕ, zero, suc, ◌+◌, ◌<◌, ◌≤◌, nat_lt, cond, Bool, true, false, List, [], ◌∷◌, ◌++◌, length, fold, map, Option, Some, refl, sym, ap, ◌∙◌, subst, arith}
 use Rattle.std.specs.Prelude.{All, slice_get}
-use Rattle.std.specs.List.{AllByRecursion as EachIs}
+use Rattle.std.specs.List.{AllByRecursion as EachIs, Contains}
 use Rattle.std.specs.Str.{bytes_eq}
 use Rattle.std.proofs.lemmas.Bool.{cond-true, cond-false, false≢true, or_parts}
 use Rattle.std.proofs.lemmas.Bool.Decides.{nat_tests}
-use Rattle.std.proofs.lemmas.List.Elements.{recursion_from_All}
+use Rattle.std.proofs.lemmas.List.Elements.{All-weaker, All-from_recursion, recursion_from_All}
 use Rattle.std.proofs.lemmas.Slice.Eq.{bytes_eq-Decides}
 use Rattle.doc_values.specs.Doc.{Fields, IsDocument}
-use Rattle.doc_flatten.specs.Documents.{documents_of, IsWithinLimits}
-use Rattle.commit_core.specs.Statement as statement
-use Rattle.commit_core.specs.Parsed.{statement_of}
-use Rattle.commit_core.specs.State.{Row, Collection, State, IsCollection, IsState, opening, is_named, collection_at, most_collections, most_pairs, most_versions}
-use Rattle.commit_core.specs.Write.{accepted, full, loads, rows_from, new_collection, with_documents, with_load, is_beyond, is_there_beyond, is_full}
-use Rattle.commit_core.specs.Plan.{Plan, refused, read, write, plan_of, plan_in, load_plan}
+use Rattle.doc_values.specs.Weight.{weight_of}
+use Rattle.doc_values.specs.declared.kind.Kind.{Kind}
+use Rattle.doc_values.specs.declared.value.Value.{Value}
+use Rattle.doc_flatten.specs.Documents.{IsWithinLimits}
+use Rattle.commit_core.specs.State.{Row, Collection, State, pair_of, IsDocumentOf, IsCollection, IsState, opening, is_named, collection_at, documents_of_rows, documents_at, most_collections, most_pairs, most_weight}
+use Rattle.attr_catalog.specs.Catalog.{most_versions}
+use Rattle.commit_core.specs.Write.{accepted, full, loads, rows_from, with_fields, new_collection, with_documents, with_load, is_beyond, is_there_beyond, is_full}
+use Rattle.commit_core.specs.Plan.{Plan, refused, read, write, plan_of}
 use Rattle.commit_core.specs.Replies.{next_state, state_left, state_behind, state_after}
 use Rattle.commit_core.proofs.PairsOnce.{AreOnce-documents}
+use Rattle.commit_core.proofs.PairsHeld.{documents_grow, documents_paired}
 
 not_above : (most n : ℕ) → nat_lt most n ≡ false → n ≤ most
 not_above most n e = grind (arith, nat_tests)
+
+-- A document of a load.
+abbrev IsLight : Fields → Type 0
+IsLight document = IsWithinLimits document × (weight_of document ≤ most_weight)
+
+-- a document of a collection is one of it when its pairs have grown
+still_of : (documents : List Fields) (pairs : List (List ℕ × Kind)) (document : Fields) → IsDocumentOf pairs document → IsDocumentOf (fold with_fields pairs documents) document
+still_of documents pairs document h = record {
+  limits = h.limits;
+  light = h.light;
+  paired = All-weaker (λ (f : List ℕ × Value). Contains pairs (pair_of f)) (λ (f : List ℕ × Value). Contains (fold with_fields pairs documents) (pair_of f)) (λ (f : List ℕ × Value) c. documents_grow documents pairs (pair_of f) c) document h.paired;
+}
 
 -- ---- the rows of a load
 
@@ -26,16 +41,17 @@ not_above most n e = grind (arith, nat_tests)
 record IsLoaded (next : ℕ) (documents : List Fields) (i : ℕ) (row : Row) : Type 0 where
   numbered : row.number ≡ next + i
   within : i < length documents
-  document : IsDocument row.document
+  there : slice_get documents i ≡ Some row.document
+  light : IsLight row.document
 
-loaded : (next : ℕ) (documents : List Fields) → EachIs IsDocument documents → (i : ℕ) (row : Row) → slice_get (rows_from next documents) i ≡ Some row → IsLoaded next documents i row
+loaded : (next : ℕ) (documents : List Fields) → EachIs IsLight documents → (i : ℕ) (row : Row) → slice_get (rows_from next documents) i ≡ Some row → IsLoaded next documents i row
 loaded next [] all i row e = absurd (cc)
 loaded next (d ∷ ds) all zero row e =
     let same : record { number = next; document = d } ≡ row = cc in
-    record { numbered = omega (arith, ap (λ (r : Row). r.number) same); within = omega arith; document = subst (λ (r : Row). IsDocument r.document) same all.0 }
+    record { numbered = omega (arith, ap (λ (r : Row). r.number) same); within = omega arith; there = ap (λ (r : Row). Some r.document) same; light = subst (λ (r : Row). IsLight r.document) same all.0 }
 loaded next (d ∷ ds) all (suc i) row e =
     let rest = loaded (next + 1) ds all.1 i row e in
-    record { numbered = omega (arith, rest.numbered); within = omega (arith, rest.within); document = rest.document }
+    record { numbered = omega (arith, rest.numbered); within = omega (arith, rest.within); there = rest.there; light = rest.light }
 
 -- Where a row of rows with more behind them stands.
 data Place (rows more : List Row) (i : ℕ) (row : Row) : Type 0 where
@@ -53,7 +69,7 @@ data Origin (collection : Collection) (documents : List Fields) (i : ℕ) (row :
   kept : slice_get collection.rows i ≡ Some row → i < length collection.rows → Origin collection documents i row
   added : (k : ℕ) → i ≡ length collection.rows + k → IsLoaded collection.next_row documents k row → Origin collection documents i row
 
-origin : (collection : Collection) (documents : List Fields) → EachIs IsDocument documents → (i : ℕ) (row : Row) →
+origin : (collection : Collection) (documents : List Fields) → EachIs IsLight documents → (i : ℕ) (row : Row) →
     slice_get (with_documents documents collection).rows i ≡ Some row → Origin collection documents i row
 origin collection documents all i row e =
     elim (place_of collection.rows (rows_from collection.next_row documents) i row e) [
@@ -67,7 +83,7 @@ within collection e =
     let both = or_parts (nat_lt most_pairs (length collection.pairs)) (nat_lt most_versions collection.versions) e in
     (not_above most_pairs (length collection.pairs) both.0, not_above most_versions collection.versions both.1)
 
-collection_more : (collection : Collection) (documents : List Fields) → EachIs IsDocument documents → IsCollection collection → is_beyond (with_documents documents collection) ≡ false
+collection_more : (collection : Collection) (documents : List Fields) → EachIs IsLight documents → IsCollection collection → is_beyond (with_documents documents collection) ≡ false
     → IsCollection (with_documents documents collection)
 collection_more collection documents all h fits = record {
   ascending = λ i j a b l e f.
@@ -88,8 +104,8 @@ collection_more collection documents all h fits = record {
       ];
   documents = λ i row e.
       elim (origin collection documents all i row e) [
-        | kept e' l ↦ h.documents i row e'
-        | added k s new ↦ new.document
+        | kept e' l ↦ still_of documents collection.pairs row.document (h.documents i row e')
+        | added k s new ↦ record { limits = new.light.0; light = new.light.1; paired = documents_paired documents collection.pairs k row.document new.there }
       ];
   once = AreOnce-documents documents collection.pairs h.once;
   few_pairs = (within (with_documents documents collection) fits).0;
@@ -183,7 +199,7 @@ unnamed_load name other documents (c ∷ more) ne apart =
 abbrev FitsAt : List ℕ → State → Type 0
 FitsAt name state = is_there_beyond (collection_at name state) ≡ false
 
-load_kept : (name : List ℕ) (documents : List Fields) (state : State) → EachIs IsDocument documents → length (with_load name documents state) ≤ most_collections → FitsAt name (with_load name documents state)
+load_kept : (name : List ℕ) (documents : List Fields) (state : State) → EachIs IsLight documents → length (with_load name documents state) ≤ most_collections → FitsAt name (with_load name documents state)
     → IsState state → IsState (with_load name documents state)
 load_kept name documents [] all few fits h =
     let more = with_documents documents (new_collection name) in
@@ -204,34 +220,35 @@ load_kept name documents (c ∷ more) all few fits h =
 
 -- ---- commits
 
--- The law of the crate below.
-abbrev KeepsLimits : Type 0
-KeepsLimits = (text : List ℕ) (docs : List Fields) → documents_of text ≡ Ok docs → All IsWithinLimits docs
+-- The documents of a load keep the limits of documents, and are light.
+abbrev LoadsAreLight : Type 0
+LoadsAreLight = (text name : List ℕ) (docs : List Fields) → plan_of text ≡ write (loads name docs) → All IsWithinLimits docs × All (λ doc. weight_of doc ≤ most_weight) docs
 
-documents_kept : (docs : List Fields) → EachIs IsWithinLimits docs → EachIs IsDocument docs
-documents_kept [] h = tt
-documents_kept (d ∷ ds) h = (h.0.0, documents_kept ds h.1)
+-- A plan writes light documents.
+abbrev WritesLight : Plan → Type 0
+WritesLight (refused line) = Unit {0}
+WritesLight (read query) = Unit {0}
+WritesLight (write (loads name docs)) = EachIs IsLight docs
 
--- A plan writes documents.
-abbrev WritesDocuments : Plan → Type 0
-WritesDocuments (refused line) = Unit {0}
-WritesDocuments (read query) = Unit {0}
-WritesDocuments (write (loads name docs)) = EachIs IsDocument docs
+both_are : (docs : List Fields) → EachIs IsWithinLimits docs → EachIs (λ doc. weight_of doc ≤ most_weight) docs → EachIs IsLight docs
+both_are [] a b = tt
+both_are (d ∷ ds) a b = ((a.0, b.0), both_are ds a.1 b.1)
 
-load_writes : KeepsLimits → (name json : List ℕ) (r : Result (List Fields) ℕ) → documents_of json ≡ r → WritesDocuments (load_plan name r)
-load_writes keeps name json (Ok docs) e = documents_kept docs (recursion_from_All IsWithinLimits docs (keeps json docs e))
-load_writes keeps name json (Err number) e = tt
-
-plan_writes : KeepsLimits → (s : Option statement.Statement) → WritesDocuments (plan_in s)
-plan_writes keeps None = tt
-plan_writes keeps (Some (statement.load collection json)) = load_writes keeps collection json (documents_of json) refl
-plan_writes keeps (Some (statement.select name collection)) = tt
+plan_writes : LoadsAreLight → (text : List ℕ) → WritesLight (plan_of text)
+plan_writes light text = by (plan_of text) refl
+  where
+    by : (plan : Plan) → plan_of text ≡ plan → WritesLight plan
+    by (refused line) e = tt
+    by (read query) e = tt
+    by (write (loads name docs)) e =
+        let both = light text name docs e in
+        both_are docs (recursion_from_All IsWithinLimits docs both.0) (recursion_from_All (λ doc. weight_of doc ≤ most_weight) docs both.1)
 
 effect_kept : (state after : State) (rows : ℕ) (t : Bool) → IsState state → (t ≡ false → IsState after) → IsState (state_left state (cond t full (accepted after rows)))
 effect_kept state after rows true h k = h
 effect_kept state after rows false h k = k refl
 
-plan_kept : (plan : Plan) (state : State) → WritesDocuments plan → IsState state → IsState (state_behind plan state)
+plan_kept : (plan : Plan) (state : State) → WritesLight plan → IsState state → IsState (state_behind plan state)
 plan_kept (refused line) state w h = h
 plan_kept (read query) state w h = h
 plan_kept (write (loads name docs)) state w h =
@@ -240,11 +257,41 @@ plan_kept (write (loads name docs)) state w h =
     (λ fits. let both = or_parts (nat_lt most_collections (length after)) (is_there_beyond (collection_at name after)) fits in
     load_kept name docs state w (not_above most_collections (length after) both.0) both.1 h)
 
-commits_kept : KeepsLimits → (texts : List (List ℕ)) (state : State) → IsState state → IsState (fold next_state state texts)
-commits_kept keeps [] state h = h
-commits_kept keeps (text ∷ texts) state h =
-    commits_kept keeps texts (next_state state text) (plan_kept (plan_of text) state (plan_writes keeps (statement_of text)) h)
+commits_kept : LoadsAreLight → (texts : List (List ℕ)) (state : State) → IsState state → IsState (fold next_state state texts)
+commits_kept light [] state h = h
+commits_kept light (text ∷ texts) state h =
+    commits_kept light texts (next_state state text) (plan_kept (plan_of text) state (plan_writes light text) h)
 
 -- The state after commits keeps the rules of a state.
-pub IsState-after : KeepsLimits → (texts : List (List ℕ)) → IsState (state_after texts)
-IsState-after keeps texts = commits_kept keeps texts opening state_none
+pub IsState-after : LoadsAreLight → (texts : List (List ℕ)) → IsState (state_after texts)
+IsState-after light texts = commits_kept light texts opening state_none
+
+-- ---- the documents of a state
+
+rows_are_documents : (pairs : List (List ℕ × Kind)) (rows : List Row) → ((i : ℕ) (row : Row) → slice_get rows i ≡ Some row → IsDocumentOf pairs row.document) → EachIs IsDocument (map (λ (row : Row). row.document) rows)
+rows_are_documents pairs [] h = tt
+rows_are_documents pairs (r ∷ rs) h = ((h 0 r refl).limits.0, rows_are_documents pairs rs (λ i row e. h (suc i) row e))
+
+documents_by : (name : List ℕ) (c : Collection) (more : State) (t : Bool) → is_named name c ≡ t → IsCollection c → EachIs IsDocument (documents_at name more) → EachIs IsDocument (documents_at name (c ∷ more))
+documents_by name c more true e h rest =
+    subst (λ (o : Option Collection). EachIs IsDocument (documents_of_rows o)) (sym (cond-true (is_named name c) (Some c) (collection_at name more) e)) (rows_are_documents c.pairs c.rows h.documents)
+documents_by name c more false e h rest =
+    subst (λ (o : Option Collection). EachIs IsDocument (documents_of_rows o)) (sym (cond-false (is_named name c) (Some c) (collection_at name more) e)) rest
+
+documents_in : (name : List ℕ) (state : State) → ((i : ℕ) (c : Collection) → slice_get state i ≡ Some c → IsCollection c) → EachIs IsDocument (documents_at name state)
+documents_in name [] h = tt
+documents_in name (c ∷ more) h = documents_by name c more (is_named name c) refl (h 0 c refl) (documents_in name more (λ i d e. h (suc i) d e))
+
+-- The documents of a collection in a state are documents.
+pub documents_at-documents : (name : List ℕ) (state : State) → IsState state → EachIs IsDocument (documents_at name state)
+documents_at-documents name state h = documents_in name state h.each
+
+rows_from_documents : (rows : List Row) → EachIs IsDocument (map (λ (row : Row). row.document) rows) → EachIs (λ (row : Row). IsDocument row.document) rows
+rows_from_documents [] h = tt
+rows_from_documents (r ∷ rs) h = (h.0, rows_from_documents rs h.1)
+
+-- The rows of a collection in a state have documents.
+pub rows_found-documents : (name : List ℕ) (state : State) (collection : Collection) → IsState state → collection_at name state ≡ Some collection → All (λ (row : Row). IsDocument row.document) collection.rows
+rows_found-documents name state collection h found =
+    All-from_recursion (λ (row : Row). IsDocument row.document) collection.rows
+    (rows_from_documents collection.rows (subst (λ (o : Option Collection). EachIs IsDocument (documents_of_rows o)) found (documents_at-documents name state h)))

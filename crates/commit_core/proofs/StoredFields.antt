@@ -21,7 +21,8 @@ use Rattle.reservoir_record.specs.Finding.{value_of}
 use Rattle.attr_catalog.specs.Attribute.{Attribute, fresh}
 use Rattle.attr_catalog.specs.Catalog.{is_of, number, id_of, kinds_of, IsOnce}
 use Rattle.commit_core.specs.StoredValue.{value_in, AreReadable}
-use Rattle.commit_core.specs.StoredDocument.{Pairs, pairs_of, with_stored, document_stored, IsHeld, IsKept, value_of_kind, value_under, IsReadable, CanBeRead}
+use Rattle.commit_core.specs.StoredDocument.{Pairs, pairs_of, with_stored, document_stored, IsStored, IsHeld, IsKept}
+use Rattle.commit_core.specs.ReadBack.{value_of_kind, value_under, IsReadable, CanBeRead}
 use Rattle.commit_core.specs.State.{Row}
 use Rattle.commit_core.specs.Write.{rows_from}
 
@@ -126,7 +127,7 @@ module _ (puts : PutsAlone) (pairs : Pairs) where
 
 -- ---- the numbers of a catalog
 
-same_rank : (a b : Kind) → rank a ≡ rank b → a ≡ b
+pub same_rank : (a b : Kind) → rank a ≡ rank b → a ≡ b
 same_rank kind.Bool kind.Bool e = refl
 same_rank kind.Int kind.Int e = refl
 same_rank kind.Text kind.Text e = refl
@@ -134,7 +135,7 @@ same_rank kind.Array kind.Array e = refl
 same_rank kind.Object kind.Object e = refl
 same_rank a b e = absurd (omega arith)
 
-both : (a b : Bool) → a && b ≡ true → (a ≡ true) × (b ≡ true)
+pub both : (a b : Bool) → a && b ≡ true → (a ≡ true) × (b ≡ true)
 both true b h = (refl, h)
 both false b h = absurd (true≢false (sym h))
 
@@ -177,26 +178,26 @@ module _ (puts : PutsAlone) (attributes : List Attribute) (once : IsOnce attribu
   abbrev document : Fields
   document = document_stored (pairs_of attributes) fs
 
-  held_at : (id : ℕ) (bytes : List ℕ) (a : Attribute) → slice_get attributes id ≡ Some a → value_of id fs ≡ Some bytes → AreReadable a.kind bytes × (value_at a.name document ≡ Some (value_in a.kind bytes))
+  held_at : (id : ℕ) (bytes : List ℕ) (a : Attribute) → slice_get attributes id ≡ Some a → value_of id fs ≡ Some bytes → IsStored document bytes (a.name, a.kind)
   held_at id bytes a at h =
       let x = among id bytes fs h in
       let held : IsHeld (pairs_of attributes) document x.field = All-contains (IsHeld (pairs_of attributes) document) fs x.field kept x.there in
       let numbered : slice_get (pairs_of attributes) x.field.id ≡ Some (a.name, a.kind) = ap (slice_get (pairs_of attributes)) x.numbered ∙ pair_at attributes id a at in
-      let told = MatchOption-at_some ⊥ (λ (p : List ℕ × Kind). AreReadable p.1 x.field.bytes × (value_at p.0 document ≡ Some (value_in p.1 x.field.bytes))) (a.name, a.kind) numbered held in
-      subst (λ (b : List ℕ). AreReadable a.kind b × (value_at a.name document ≡ Some (value_in a.kind b))) x.has told
+      let told = MatchOption-at_some ⊥ (IsStored document x.field.bytes) (a.name, a.kind) numbered held in
+      subst (λ (b : List ℕ). IsStored document b (a.name, a.kind)) x.has told
 
   sound_at : (of : Kind) (id : AttrId) (v : Value) (o : Option (List ℕ)) → id_of name of attributes ≡ Some id → value_of id.0 fs ≡ o → option_map (value_in of) o ≡ Some v → value_at name document ≡ Some v
   sound_at of id v None e found h = absurd (none-some v h)
   sound_at of id v (Some bytes) e found h =
       let s = stands_for attributes name of id e in
       let told = held_at id.0 bytes s.attribute s.there found in
-      ap (λ (n : List ℕ). value_at n document) s.named ∙ told.1 ∙ ap (λ (k : Kind). Some (value_in k bytes)) (sym s.kinded) ∙ h
+      ap (λ (n : List ℕ). value_at n document) s.named ∙ told.stands ∙ ap (λ (k : Kind). Some (value_in k bytes)) (sym s.kinded) ∙ h
 
   sound_by : (of : Kind) (v : Value) (o : Option AttrId) → id_of name of attributes ≡ o → value_of_kind of o fs ≡ Some v → value_at name document ≡ Some v
   sound_by of v None e h = absurd (none-some v h)
   sound_by of v (Some id) e h = sound_at of id v (value_of id.0 fs) e refl h
 
-  sound : (of : Kind) (v : Value) → value_of_kind of (id_of name of attributes) fs ≡ Some v → value_at name document ≡ Some v
+  pub sound : (of : Kind) (v : Value) → value_of_kind of (id_of name of attributes) fs ≡ Some v → value_at name document ≡ Some v
   sound of v h = sound_by of v (id_of name of attributes) refl h
 
   none_there : (of : Kind) (id : AttrId) → id_of name of attributes ≡ Some id → value_of_kind of (id_of name of attributes) fs ≡ None → HasBytes id.0 fs → ⊥
@@ -245,7 +246,7 @@ module _ (puts : PutsAlone) (attributes : List Attribute) (once : IsOnce attribu
   readable_at of id None e found = tt
   readable_at of id (Some bytes) e found =
       let s = stands_for attributes name of id e in
-      subst (λ (k : Kind). AreReadable k bytes) (sym s.kinded) (held_at id.0 bytes s.attribute s.there found).0
+      subst (λ (k : Kind). AreReadable k bytes) (sym s.kinded) (held_at id.0 bytes s.attribute s.there found).readable
 
   readable_by : (of : Kind) (o : Option AttrId) → id_of name of attributes ≡ o → IsReadable of o fs
   readable_by of None e = tt

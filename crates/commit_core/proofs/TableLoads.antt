@@ -6,16 +6,16 @@ use Rattle.std.proofs.lemmas.Bool.Decides.{nat_tests}
 use Rattle.std.proofs.lemmas.List.{length-map}
 use Rattle.std.proofs.lemmas.List.Elements.{filter-append, All-head, All-tail, All-contains}
 use Rattle.std.proofs.lemmas.Option.{same_Some, slice_get_within, slice_get_cases}
-use Rattle.doc_values.specs.Doc.{Fields, value_at}
+use Rattle.doc_values.specs.Doc.{Fields}
 use Rattle.doc_values.specs.declared.kind.Kind.{Kind}
 use Rattle.reservoir_record.specs.declared.fields.Field.{Field}
 use Rattle.reservoir_record.specs.Finding.{value_of}
 use Rattle.attr_catalog.specs.Attribute.{Attribute}
-use Rattle.commit_core.specs.State.{Row, most_pairs, most_versions}
+use Rattle.commit_core.specs.State.{Row, most_pairs}
+use Rattle.attr_catalog.specs.Catalog.{most_versions}
 use Rattle.commit_core.specs.Write.{rows_from, with_fields, with_documents}
-use Rattle.commit_core.specs.StoredValue.{value_in, AreReadable}
-use Rattle.commit_core.specs.StoredDocument.{Pairs, pairs_of, document_stored, IsHeld, IsKept, has_number, holders, IsTable, collection_of}
-use Rattle.commit_core.specs.Loading.{HasGrown, HasFront, HasDocuments, HasCounted, HasLoaded, documents_stored, is_too_much}
+use Rattle.commit_core.specs.StoredDocument.{Pairs, pairs_of, document_stored, IsStored, IsHeld, IsKept, has_number, holders, IsInRecords, IsTable, collection_of}
+use Rattle.commit_core.specs.Loading.{IsFresh, HasGrown, HasFront, HasDocuments, HasCounted, HasLoaded, documents_stored, is_too_much}
 use Rattle.commit_core.proofs.StoredFields.{among}
 use Rattle.commit_core.proofs.Pairs.{get_taken}
 use Rattle.commit_core.proofs.Entries.{take_all_of}
@@ -33,7 +33,7 @@ lacks_by pairs id fs None e kept le = rw e refl
 lacks_by pairs id fs (Some bytes) e kept le =
     let x = among id bytes fs e in
     let held : IsHeld pairs (document_stored pairs fs) x.field = All-contains (IsHeld pairs (document_stored pairs fs)) fs x.field kept x.there in
-    let below : x.field.id < length pairs = held_below pairs x.field.id (λ (p : List ℕ × Kind). AreReadable p.1 x.field.bytes × (value_at p.0 (document_stored pairs fs) ≡ Some (value_in p.1 x.field.bytes))) (slice_get pairs x.field.id) refl held in
+    let below : x.field.id < length pairs = held_below pairs x.field.id (IsStored (document_stored pairs fs) x.field.bytes) (slice_get pairs x.field.id) refl held in
     absurd (omega (arith, x.numbered))
 
 none_holds : (pairs : Pairs) (id : ℕ) (records : List (List Field)) → All (IsKept pairs) records → length pairs ≤ id → holders id records ≡ 0
@@ -90,11 +90,18 @@ module _ (old mid : List Attribute) (g : HasGrown old mid) (before after : List 
   length_pairs : length (pairs_of old) ≡ length old
   length_pairs = length-map old (λ (a : Attribute). let pair : List ℕ × Kind = (a.name, a.kind) in pair)
 
+  begins : (id : ℕ) (m : Attribute) → slice_get mid id ≡ Some m → length old ≤ id → IsFresh m
+  begins id m e le = all_at IsFresh (drop (length old) mid) (id - length old) m g.begun (dropped_get mid (length old) id m le e)
+
   mid_by : (id : ℕ) (m : Attribute) → slice_get mid id ≡ Some m → ((a : Attribute) × (slice_get old id ≡ Some a)) ⊎ (length old ≤ id) → m.count ≡ holders id before
   mid_by id m e (inl a) = let same : m ≡ a.0 = same_Some m a.0 (sym e ∙ stood id a.0 a.1) in ap (λ (x : Attribute). x.count) same ∙ t.counted id a.0 a.1
   mid_by id m e (inr le) =
-      let zero_count : m.count ≡ 0 = all_at (λ (x : Attribute). x.count ≡ 0) (drop (length old) mid) (id - length old) m g.unheld (dropped_get mid (length old) id m le e) in
+      let zero_count : m.count ≡ 0 = ap (λ (x : Attribute). x.count) (begins id m e le) in
       zero_count ∙ sym (none_holds (pairs_of old) id before t.kept (omega (arith, length_pairs)))
+
+  placed_by : (id : ℕ) (m : Attribute) → slice_get mid id ≡ Some m → ((a : Attribute) × (slice_get old id ≡ Some a)) ⊎ (length old ≤ id) → IsInRecords m
+  placed_by id m e (inl a) = subst IsInRecords (same_Some a.0 m (sym (stood id a.0 a.1) ∙ e)) (t.placed id a.0 a.1)
+  placed_by id m e (inr le) = record { housed = ap (λ (x : Attribute). x.home) (begins id m e le); clean = ap (λ (x : Attribute). x.mark) (begins id m e le) }
 
   old_or_new : (id : ℕ) → ((a : Attribute) × (slice_get old id ≡ Some a)) ⊎ (length old ≤ id)
   old_or_new id = by (slice_get_cases old id).1
@@ -113,12 +120,20 @@ module _ (old mid : List Attribute) (g : HasGrown old mid) (before after : List 
     new_count : (id : ℕ) (a : Attribute) → slice_get new id ≡ Some a → a.count ≡ holders id after
     new_count id a e =
         let m = mate mid new id a c.pairs e in
-        c.counts id m.0 a m.1 e ∙ ap (λ (n : ℕ). n + holders id rest) (mid_count id m.0 m.1) ∙ sym (holders_both id before rest) ∙ ap (holders id) whole
+        ap (λ (x : Attribute). x.count) (c.counts id m.0 a m.1 e) ∙ ap (λ (n : ℕ). n + holders id rest) (mid_count id m.0 m.1) ∙ sym (holders_both id before rest) ∙ ap (holders id) whole
+
+    new_placed : (id : ℕ) (a : Attribute) → slice_get new id ≡ Some a → IsInRecords a
+    new_placed id a e =
+        let m = mate mid new id a c.pairs e in
+        let counted = c.counts id m.0 a m.1 e in
+        let before : IsInRecords m.0 = placed_by id m.0 m.1 (old_or_new id) in
+        record { housed = ap (λ (x : Attribute). x.home) counted ∙ before.housed; clean = ap (λ (x : Attribute). x.mark) counted ∙ before.clean }
 
     pub is_table : IsTable new after
     is_table = record {
       kept = subst (λ (ps : Pairs). All (IsKept ps) after) (sym c.pairs) h.kept;
       counted = new_count;
+      placed = new_placed;
       few = omega (arith, length_after, room);
     }
 

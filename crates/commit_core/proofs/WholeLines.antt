@@ -1,28 +1,38 @@
 -- Every reply is whole lines.
-use Rattle.std.proofs.Common.{◌≡◌, ◌≢◌, ◌≤◌, ℕ, suc, zero, List, [], ◌∷◌, ◌++◌, Bool, true, false, Option, Some, None, Result, Ok, Err, cond, map, flat_map, fold, codes, decimal, length, refl, sym, append_assoc, arith, nat_eq, nat_le, ◌&&◌, ◌/◌, ◌%◌, ◌⊎◌, inl, inr}
-use Rattle.std.specs.Prelude.{All, IfSome}
+use Rattle.std.proofs.Common.{◌≡◌, ◌≢◌, ◌≤◌, ℕ, suc, zero, List, [], ◌∷◌, ◌++◌, Bool, true, false, Option, Some, None, Result, Ok, Err, cond, map, flat_map, fold, codes, decimal, length, refl, sym, arith, nat_eq, nat_le, ◌&&◌, ◌/◌, ◌%◌, ◌⊎◌, inl, inr}
+use Rattle.std.specs.Prelude.{All, IfSome, filter, slice_get}
+use Rattle.std.specs.Option.{option_map_or}
 use Rattle.std.specs.List.{AllByRecursion as EachIs, list_all}
 use Rattle.std.specs.Fmt.{digits, digits_onto, digit_glyph}
-use Rattle.std.specs.BTreeMap.{is_at}
-use Rattle.std.specs.Ordering.{nat_cmp}
-use Rattle.std.specs.Cmp.Lexicographic.{slice_cmp}
 use Rattle.std.proofs.lemmas.Grind.{flat_map-append, common_steps}
 use Rattle.std.proofs.lemmas.List.Elements.{All-from_recursion, recursion_from_All}
 use Rattle.std.proofs.lemmas.Bool.{false≢true}
 use Rattle.std.proofs.lemmas.Bool.Decides.{nat_tests}
-use Rattle.doc_values.specs.declared.value.Value as value
-use Rattle.doc_values.specs.Doc.{Fields, value_at}
-use Rattle.doc_values.specs.Value.{printed, IsOneLine, HasOneLineArray}
+use Rattle.doc_values.specs.declared.kind.Kind.{Kind}
+use Rattle.doc_values.specs.Doc.{Fields}
+use Rattle.doc_values.specs.Value.{HasOneLineArray}
 use Rattle.doc_flatten.specs.Documents.{documents_of}
 use Rattle.doc_flatten.specs.Lines.{HasOneLineArrays}
-use Rattle.commit_core.specs.Statement as statement
-use Rattle.commit_core.specs.Parsed.{statement_of}
+use Rattle.sql_tree.specs.declared.select.Select.{Select}
+use Rattle.sql_tree.specs.declared.statement.Statement.{Statement}
+use Rattle.sql_tree.specs.declared.statement.Statement.TheVariants as statement
+use Rattle.sql_tree.specs.declared.table.Table.{Table}
+use Rattle.sql_tree.specs.declared.term.Term.{Term}
+use Rattle.sql_grammar.specs.StatementReader.{statement_of}
+use Rattle.sql_eval.specs.Contents.{Output}
+use Rattle.sql_eval.specs.Meaning.{meaning}
+use Rattle.sql_eval.specs.OneLine.{HaveOneLineArrays}
+use Rattle.type_rules.specs.declared.type_fault.TypeFault.{TypeFault}
+use Rattle.type_rules.specs.declared.type_fault.TypeFault.TheVariants as type_fault
+use Rattle.type_rules.specs.Fault.{fault_of}
+use Rattle.type_rules.specs.Places.{scope_of, item_terms}
+use Rattle.exec_finish.specs.Answer.{line, ok_line, finished}
+use Rattle.exec_finish.specs.Lines.{is_mark, IsAnswerLine, IsLines, HasOneLineValues}
 use Rattle.commit_core.specs.State.{State, documents_at, opening}
-use Rattle.commit_core.specs.Query.{line, ok_line, row_line, values_found}
+use Rattle.commit_core.specs.Query.{documents_asked, tuples_of, is_kept, values_of, output_of, answer_among}
 use Rattle.commit_core.specs.Write.{accepted, full, loads, with_load, is_full}
-use Rattle.commit_core.specs.Plan.{Plan, refused, read, write, plan_of, plan_in, load_plan, syntax_line, json_line}
+use Rattle.commit_core.specs.Plan.{Plan, refused, read, write, plan_of, plan_in, lawful_plan, checked_plan, load_plan, syntax_line, type_line, json_line}
 use Rattle.commit_core.specs.Replies.{told_of, told_plan, told_effect, full_line, next_state, state_left, state_behind, state_after}
-use Rattle.commit_core.specs.Lines.{is_mark, IsReplyLine, IsLines}
 use Rattle.commit_core.proofs.Loads.{same_or_not, documents_at-load, documents_at-load_other}
 
 -- no byte is below a space
@@ -65,10 +75,10 @@ IsPlain-decimal n = IsPlain-digits_onto 64 n [] tt
 record AreLines (text : List ℕ) : Type 0 where
   lines : List (List ℕ)
   whole : text ≡ flat_map line lines
-  each : EachIs IsReplyLine lines
+  each : EachIs IsAnswerLine lines
 
 IsLines-from_recursion : (text : List ℕ) → AreLines text → IsLines text
-IsLines-from_recursion text h = record { lines = h.lines; whole = h.whole; each = All-from_recursion IsReplyLine h.lines h.each }
+IsLines-from_recursion text h = record { lines = h.lines; whole = h.whole; each = All-from_recursion IsAnswerLine h.lines h.each }
 
 AreLines-line : (c : ℕ) (cs : List ℕ) → is_mark c ≡ false → IsPlain (c ∷ cs) → AreLines (line (c ∷ cs))
 AreLines-line c cs m h = record {
@@ -81,7 +91,7 @@ AreLines-append : (a b : List ℕ) → AreLines a → AreLines b → AreLines (a
 AreLines-append a b h k = record {
   lines = h.lines ++ k.lines;
   whole = rw (h.whole, k.whole) (sym (flat_map-append line h.lines k.lines));
-  each = EachIs-append IsReplyLine h.lines k.lines h.each k.each;
+  each = EachIs-append IsAnswerLine h.lines k.lines h.each k.each;
 }
 
 AreLines-ok : (n : ℕ) → AreLines (ok_line n)
@@ -99,49 +109,60 @@ AreLines-full = AreLines-line 33 (codes " full") refl (IsPlain-tested (codes "! 
 AreLines-json : (n : ℕ) → AreLines (json_line n)
 AreLines-json n = AreLines-line 33 (codes " json " ++ decimal n) refl (EachIs-append _ (codes "! json ") (decimal n) (IsPlain-tested (codes "! json ") refl) (IsPlain-decimal n))
 
+AreLines-type : (fault : TypeFault) → AreLines (type_line fault)
+AreLines-type type_fault.Name = AreLines-line 33 (codes " type name") refl (IsPlain-tested (codes "! type name") refl)
+AreLines-type type_fault.Group = AreLines-line 33 (codes " type group") refl (IsPlain-tested (codes "! type group") refl)
+AreLines-type type_fault.Kind = AreLines-line 33 (codes " type kind") refl (IsPlain-tested (codes "! type kind") refl)
+AreLines-type type_fault.Wide = AreLines-line 33 (codes " type wide") refl (IsPlain-tested (codes "! type wide") refl)
+AreLines-type type_fault.Memory = AreLines-line 33 (codes " type ") refl (IsPlain-tested (codes "! type ") refl)
+
 -- the laws of the crates below
-abbrev PrintsPlainly : Type 0
-PrintsPlainly = (v : Option value.Value) → IfSome v HasOneLineArray → IsOneLine (printed v)
+abbrev AnswersInLines : Type 0
+AnswersInLines = (is_distinct : Bool) (descending : List Bool) (limit : Option ℕ) (star : Bool) (rows : List Output) → All HasOneLineValues rows → IsLines (finished is_distinct descending limit star rows)
+
+abbrev MeansOnOneLine : Type 0
+MeansOnOneLine = (scope : List (List ℕ)) (sides : List (Option Fields)) (t : Term) (want : Option Kind) → HaveOneLineArrays sides → IfSome (meaning scope sides t want) HasOneLineArray
 
 abbrev GivesPlainArrays : Type 0
 GivesPlainArrays = (text : List ℕ) (docs : List Fields) → documents_of text ≡ Ok docs → All HasOneLineArrays docs
-
-AreLines-row : PrintsPlainly → (v : Option value.Value) → IfSome v HasOneLineArray → AreLines (row_line v)
-AreLines-row prints v h =
-    let text = recursion_from_All (λ byte. 32 ≤ byte) (printed v) (prints v h) in
-    AreLines-line 91 (printed v ++ codes "]") refl ((IsPlain-tested (codes "[") refl).0, EachIs-append _ (printed v) (codes "]") text (IsPlain-tested (codes "]") refl))
-
-AreLines-rows : PrintsPlainly → (vs : List (Option value.Value)) → EachIs (λ v. IfSome v HasOneLineArray) vs → (end : List ℕ) → AreLines end → AreLines (flat_map row_line vs ++ end)
-AreLines-rows prints [] h end e = e
-AreLines-rows prints (v ∷ vs) h end e =
-    rw append_assoc (AreLines-append (row_line v) (flat_map row_line vs ++ end) (AreLines-row prints v h.0) (AreLines-rows prints vs h.1 end e))
-
-array_on_line : (v : value.Value) → HasOneLineArray v → HasOneLineArray v
-array_on_line (value.TheVariants.Bool b) h = tt
-array_on_line (value.TheVariants.Int n) h = tt
-array_on_line (value.TheVariants.Text s) h = tt
-array_on_line (value.TheVariants.Array s) h = h
-array_on_line value.TheVariants.Object h = tt
-
-IfSome-cond : (t : Bool) (v : value.Value) (o : Option value.Value) → HasOneLineArray v → IfSome o HasOneLineArray → IfSome (cond t (Some v) o) HasOneLineArray
-IfSome-cond true v o h k = h
-IfSome-cond false v o h k = k
 
 -- a document whose arrays stand on one line
 abbrev IsPlainDocument : Fields → Type 0
 IsPlainDocument = EachIs (λ field. HasOneLineArray field.1)
 
-value_is_plain : (name : List ℕ) (fields : Fields) → IsPlainDocument fields → IfSome (value_at name fields) HasOneLineArray
-value_is_plain name [] h = tt
-value_is_plain name (f ∷ fs) h = IfSome-cond (is_at (slice_cmp nat_cmp name) f.0) f.1 (value_at name fs) (array_on_line f.1 h.0) (value_is_plain name fs h.1)
-
-values_are_plain : (name : List ℕ) (docs : List Fields) → EachIs IsPlainDocument docs → EachIs (λ v. IfSome v HasOneLineArray) (map (value_at name) docs)
-values_are_plain name [] h = tt
-values_are_plain name (d ∷ ds) h = (value_is_plain name d h.0, values_are_plain name ds h.1)
-
 plain_documents : (docs : List Fields) → EachIs HasOneLineArrays docs → EachIs IsPlainDocument docs
 plain_documents [] h = tt
 plain_documents (d ∷ ds) h = (recursion_from_All (λ field. HasOneLineArray field.1) d h.0, plain_documents ds h.1)
+
+-- ---- the rows of an answer
+
+module _ (means : MeansOnOneLine) (s : Select) where
+  side_plain : (d : Fields) → IsPlainDocument d → HaveOneLineArrays (Some d ∷ [])
+  side_plain d h = All-from_recursion (λ side. IfSome side (All (λ field. HasOneLineArray field.1))) (Some d ∷ []) (All-from_recursion (λ field. HasOneLineArray field.1) d h, tt)
+
+  values_plain : (d : Fields) → IsPlainDocument d → (ts : List Term) → EachIs (λ item. IfSome item HasOneLineArray) (values_of s (Some d ∷ []) ts)
+  values_plain d h [] = tt
+  values_plain d h (t ∷ ts) = (means (scope_of s) (Some d ∷ []) t None (side_plain d h), values_plain d h ts)
+
+  doc_plain : (t : Bool) (d : Fields) → IsPlainDocument d → IfSome (cond t (Some d) None) (λ fields. All (λ field. HasOneLineArray field.1) fields)
+  doc_plain true d h = All-from_recursion (λ field. HasOneLineArray field.1) d h
+  doc_plain false d h = tt
+
+  row_plain : (d : Fields) → IsPlainDocument d → HasOneLineValues (output_of s (Some d ∷ []))
+  row_plain d h = record { items = All-from_recursion _ (values_of s (Some d ∷ []) (item_terms s)) (values_plain d h (item_terms s)); doc = doc_plain s.star d h }
+
+  rows_by : (d : Fields) (ds : List Fields) (t : Bool) → IsPlainDocument d → EachIs HasOneLineValues (map (output_of s) (filter (is_kept s) (tuples_of ds)))
+      → EachIs HasOneLineValues (map (output_of s) (cond t ((Some d ∷ []) ∷ filter (is_kept s) (tuples_of ds)) (filter (is_kept s) (tuples_of ds))))
+  rows_by d ds true h rest = (row_plain d h, rest)
+  rows_by d ds false h rest = rest
+
+  rows_plain : (ds : List Fields) → EachIs IsPlainDocument ds → EachIs HasOneLineValues (map (output_of s) (filter (is_kept s) (tuples_of ds)))
+  rows_plain [] h = tt
+  rows_plain (d ∷ ds) h = rows_by d ds (is_kept s (Some d ∷ [])) h.0 (rows_plain ds h.1)
+
+  answer_plain : AnswersInLines → (ds : List Fields) → EachIs IsPlainDocument ds → IsLines (answer_among s ds)
+  answer_plain answers ds h =
+      answers s.distinct _ s.limit s.star (map (output_of s) (filter (is_kept s) (tuples_of ds))) (All-from_recursion HasOneLineValues _ (rows_plain ds h))
 
 -- each document of a state is plain
 abbrev IsPlainState : State → Type 0
@@ -164,10 +185,19 @@ IsPlainPlan-load : GivesPlainArrays → (name json : List ℕ) (r : Result (List
 IsPlainPlan-load gives name json (Ok docs) e = plain_documents docs (recursion_from_All HasOneLineArrays docs (gives json docs e))
 IsPlainPlan-load gives name json (Err n) e = AreLines-json n
 
-IsPlainPlan-in : GivesPlainArrays → (s : Option statement.Statement) → IsPlainPlan (plan_in s)
+IsPlainPlan-lawful : GivesPlainArrays → (s : Statement) → IsPlainPlan (lawful_plan s)
+IsPlainPlan-lawful gives (statement.Load collection json) = IsPlainPlan-load gives collection json (documents_of json) refl
+IsPlainPlan-lawful gives (statement.Select select) = tt
+IsPlainPlan-lawful gives (statement.Update collection sets test) = AreLines-syntax
+IsPlainPlan-lawful gives (statement.Delete collection test) = AreLines-syntax
+
+IsPlainPlan-checked : GivesPlainArrays → (s : Statement) (fault : Option TypeFault) → IsPlainPlan (checked_plan s fault)
+IsPlainPlan-checked gives s None = IsPlainPlan-lawful gives s
+IsPlainPlan-checked gives s (Some fault) = AreLines-type fault
+
+IsPlainPlan-in : GivesPlainArrays → (s : Option Statement) → IsPlainPlan (plan_in s)
 IsPlainPlan-in gives None = AreLines-syntax
-IsPlainPlan-in gives (Some (statement.load collection json)) = IsPlainPlan-load gives collection json (documents_of json) refl
-IsPlainPlan-in gives (Some (statement.select name collection)) = tt
+IsPlainPlan-in gives (Some s) = IsPlainPlan-checked gives s (fault_of s)
 
 IsPlainState-left : (state after : State) (rows : ℕ) (t : Bool) → IsPlainState state → IsPlainState after → IsPlainState (state_left state (cond t full (accepted after rows)))
 IsPlainState-left state after rows true h k = h
@@ -189,15 +219,20 @@ AreLines-effect : (after : State) (rows : ℕ) (t : Bool) → AreLines (told_eff
 AreLines-effect after rows true = AreLines-full
 AreLines-effect after rows false = AreLines-ok rows
 
-AreLines-told : PrintsPlainly → (plan : Plan) (state : State) → IsPlainPlan plan → IsPlainState state → AreLines (told_plan plan state).body
-AreLines-told prints (refused text) state p h = p
-AreLines-told prints (read query) state p h =
-    let values = values_found query state in
-    AreLines-rows prints values (values_are_plain query.name (documents_at query.collection state) (h query.collection)) (ok_line (length values)) (AreLines-ok (length values))
-AreLines-told prints (write (loads name docs)) state p h = AreLines-effect (with_load name docs state) (length docs) (is_full name (with_load name docs state))
+asked_plain : (s : Select) (state : State) → IsPlainState state → EachIs IsPlainDocument (documents_asked s state)
+asked_plain s state h = by (slice_get s.tables 0)
+  where
+    by : (o : Option Table) → EachIs IsPlainDocument (option_map_or (λ (t : Table). documents_at t.collection state) o [])
+    by None = tt
+    by (Some t) = h t.collection
+
+IsLines-plan : AnswersInLines → MeansOnOneLine → (plan : Plan) (state : State) → IsPlainPlan plan → IsPlainState state → IsLines (told_plan plan state).body
+IsLines-plan answers means (refused text) state p h = IsLines-from_recursion _ p
+IsLines-plan answers means (read question) state p h = answer_plain means question answers (documents_asked question state) (asked_plain question state h)
+IsLines-plan answers means (write (loads name docs)) state p h = IsLines-from_recursion _ (AreLines-effect (with_load name docs state) (length docs) (is_full name (with_load name docs state)))
 
 -- every reply is whole lines
-pub IsLines-told : PrintsPlainly → GivesPlainArrays → (text : List ℕ) (texts : List (List ℕ)) → IsLines (told_of text (state_after texts)).body
-IsLines-told prints gives text texts =
+pub IsLines-told : AnswersInLines → MeansOnOneLine → GivesPlainArrays → (text : List ℕ) (texts : List (List ℕ)) → IsLines (told_of text (state_after texts)).body
+IsLines-told answers means gives text texts =
     let plain = IsPlainState-fold gives texts opening (λ name. tt) in
-    IsLines-from_recursion _ (AreLines-told prints (plan_of text) (state_after texts) (IsPlainPlan-in gives (statement_of text)) plain)
+    IsLines-plan answers means (plan_of text) (state_after texts) (IsPlainPlan-in gives (statement_of text)) plain

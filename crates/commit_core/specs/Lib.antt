@@ -1,8 +1,3 @@
-pub mod Words
-pub mod Grammar
-pub mod Parsed
-pub mod Statement
-pub mod Spelled
 pub mod State
 pub mod Query
 pub mod Write
@@ -11,7 +6,9 @@ pub mod Replies
 pub mod Commits
 pub mod Agreement
 pub mod Planned
-pub mod Lines
 pub mod StoredValue
 pub mod StoredDocument
 pub mod Loading
+pub mod ReadBack
+pub mod StoredRow
+pub mod Answering

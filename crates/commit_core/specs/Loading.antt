@@ -5,17 +5,22 @@ use Rattle.doc_values.specs.Doc.{Fields}
 use Rattle.doc_values.specs.Value.{kind_of}
 use Rattle.reservoir_record.specs.declared.fields.Field.{Field}
 use Rattle.reservoir_record.specs.Spelling.{ArePartsOf}
-use Rattle.attr_catalog.specs.Attribute.{Attribute}
+use Rattle.attr_catalog.specs.Attribute.{Attribute, fresh}
 use Rattle.commit_core.specs.declared.parts.Parts.{Parts}
-use Rattle.commit_core.specs.State.{most_pairs, most_versions}
+use Rattle.attr_catalog.specs.Catalog.{most_versions}
+use Rattle.commit_core.specs.State.{most_pairs}
 use Rattle.commit_core.specs.Write.{with_fields}
 use Rattle.commit_core.specs.StoredValue.{bytes_of, AreReadable}
 use Rattle.commit_core.specs.StoredDocument.{Pairs, pairs_of, document_stored, IsKept, holders}
 
--- The attributes stand as before, with others behind them that no document holds yet.
+-- The attribute is as a catalog begins one: no document holds it.
+abbrev pub IsFresh : Attribute → Type 0
+IsFresh a = a ≡ fresh a.name a.kind
+
+-- The attributes stand as before, with others behind them that are as they begin.
 pub record HasGrown (old new : List Attribute) : Type 0 where
   pub front : take (length old) new ≡ old
-  pub unheld : All (λ a. a.count ≡ 0) (drop (length old) new)
+  pub begun : All IsFresh (drop (length old) new)
   pub longer : length old ≤ length new
 
 -- Each field of a document, from a place on, has its entry: the number of its pair, and its place; and its bytes can be read.
@@ -51,10 +56,14 @@ pub record HasFront {X : Type 0} (old new : List X) : Type 0 where
   pub front : take (length old) new ≡ old
   pub longer : length old ≤ length new
 
+-- The attribute with another count.
+abbrev pub with_count : Attribute → ℕ → Attribute
+with_count a count = record a { count = count }
+
 -- So many more records hold each attribute, and nothing else has changed.
 pub record HasCounted (records : List (List Field)) (old new : List Attribute) : Type 0 where
   pub pairs : pairs_of new ≡ pairs_of old
-  pub counts : (id : ℕ) (a b : Attribute) → slice_get old id ≡ Some a → slice_get new id ≡ Some b → b.count ≡ a.count + holders id records
+  pub counts : (id : ℕ) (a b : Attribute) → slice_get old id ≡ Some a → slice_get new id ≡ Some b → b ≡ with_count a (a.count + holders id records)
 
 -- Documents behind those of a table would be more, or have more pairs, than there may be.
 abbrev pub is_too_much : List Fields → List Attribute → List (List Field) → Bool

@@ -1,21 +1,38 @@
 -- What a text comes to before any store is looked at.
-use Rattle.std.specs.Prelude.{ℕ, List, ◌++◌, codes, decimal, Option, Some, None, Result, Ok, Err}
+use Rattle.std.specs.Prelude.{ℕ, List, [], ◌++◌, codes, decimal, Option, Some, None, Result, Ok, Err}
 use Rattle.doc_values.specs.Doc.{Fields}
 use Rattle.doc_flatten.specs.Documents.{documents_of}
-use Rattle.commit_core.specs.Statement as statement
-use Rattle.commit_core.specs.Parsed.{statement_of}
-use Rattle.commit_core.specs.Query.{Query, line}
+use Rattle.sql_tree.specs.declared.select.Select.{Select}
+use Rattle.sql_tree.specs.declared.statement.Statement.{Statement}
+use Rattle.sql_tree.specs.declared.statement.Statement.TheVariants as statement
+use Rattle.sql_grammar.specs.StatementReader.{statement_of}
+use Rattle.type_rules.specs.declared.type_fault.TypeFault.{TypeFault}
+use Rattle.type_rules.specs.declared.type_fault.TypeFault.TheVariants.{Name, Group, Kind, Wide, Memory}
+use Rattle.type_rules.specs.Fault.{fault_of}
+use Rattle.exec_finish.specs.Answer.{line}
 use Rattle.commit_core.specs.Write.{Write, loads}
 
--- A text is refused with a line, or it is a query, or a write.
+-- A text is refused with a line, or it is a question, or a write.
 pub data Plan : Type 0 where
   refused : List ℕ → Plan
-  read : Query → Plan
+  read : Select → Plan
   write : Write → Plan
 
 -- The line for a text that spells no statement.
 abbrev pub syntax_line : List ℕ
 syntax_line = line (codes "! syntax")
+
+-- The word for a rule that is broken; want of memory is none.
+abbrev pub rule_word : TypeFault → List ℕ
+rule_word Name = codes "name"
+rule_word Group = codes "group"
+rule_word Kind = codes "kind"
+rule_word Wide = codes "wide"
+rule_word Memory = []
+
+-- The line for a statement that breaks a rule, and no rule before that one.
+abbrev pub type_line : TypeFault → List ℕ
+type_line fault = line (codes "! type " ++ rule_word fault)
 
 -- The line for a load whose document of this number is excluded, or that has no documents.
 abbrev pub json_line : ℕ → List ℕ
@@ -26,11 +43,22 @@ abbrev pub load_plan : List ℕ → Result (List Fields) ℕ → Plan
 load_plan collection (Ok documents) = write (loads collection documents)
 load_plan collection (Err number) = refused (json_line number)
 
+-- The plan of a statement that keeps the rules. No text spells an update or a deletion yet.
+abbrev pub lawful_plan : Statement → Plan
+lawful_plan (statement.Load collection json) = load_plan collection (documents_of json)
+lawful_plan (statement.Select select) = read select
+lawful_plan (statement.Update collection sets test) = refused syntax_line
+lawful_plan (statement.Delete collection test) = refused syntax_line
+
+-- The plan of a statement, from the first rule that it breaks.
+abbrev pub checked_plan : Statement → Option TypeFault → Plan
+checked_plan s None = lawful_plan s
+checked_plan s (Some fault) = refused (type_line fault)
+
 -- The plan of a statement, if there is one.
-abbrev pub plan_in : Option statement.Statement → Plan
+abbrev pub plan_in : Option Statement → Plan
 plan_in None = refused syntax_line
-plan_in (Some (statement.load collection json)) = load_plan collection (documents_of json)
-plan_in (Some (statement.select name collection)) = read (record { name = name; collection = collection })
+plan_in (Some s) = checked_plan s (fault_of s)
 
 -- The plan of a text.
 abbrev pub plan_of : List ℕ → Plan

@@ -1,11 +1,25 @@
--- The plan that a prepared text keeps.
+-- What a prepared text keeps of its plan.
+use Rattle.std.specs.Prelude.{◌≡◌}
+use Rattle.sql_tree.specs.declared.select.Select.{Select}
+use Rattle.sql_eval.specs.declared.select_plan.SelectPlan.{SelectPlan}
+use Rattle.type_rules.specs.Plan.{IsPlanOf}
+use Rattle.type_rules.specs.Runnable.{CanBeRun}
+use Rattle.type_rules.specs.Written.{IsQuestion}
 use Rattle.commit_core.specs.Plan.{Plan, refused, read, write}
 use Rattle.commit_core.specs.Write.{loads}
 use Rattle.commit_core.specs.declared.planned.Planned.{Planned}
 use Rattle.commit_core.specs.declared.planned.Planned.TheVariants.{Refused, Read, Write}
 
--- The plan that is kept.
-abbrev pub plan_kept : Planned → Plan
-plan_kept (Refused line) = refused line
-plan_kept (Read name collection) = read (record { name = name; collection = collection })
-plan_kept (Write collection documents) = write (loads collection documents)
+-- The plan is that of a question over one table, and this is a plan of it whose columns are places in rows, and which can be run.
+pub record IsReadAs (resolved : SelectPlan) (plan : Plan) : Type 0 where
+  pub question : Select
+  pub planned : plan ≡ read question
+  pub asked : IsQuestion question
+  pub resolves : IsPlanOf question resolved
+  pub runs : CanBeRun resolved
+
+-- What is kept stands for the plan.
+abbrev pub StandsFor : Planned → Plan → Type 0
+StandsFor (Refused line) plan = plan ≡ refused line
+StandsFor (Read resolved) plan = IsReadAs resolved plan
+StandsFor (Write collection documents) plan = plan ≡ write (loads collection documents)

@@ -1,7 +1,8 @@
 -- The reply to a text over a state, and the state after commits.
 use Rattle.std.specs.Prelude.{ℕ, List, Bool, true, false, codes, fold}
 use Rattle.commit_core.specs.State.{State, opening}
-use Rattle.commit_core.specs.Query.{line, ok_line, values_found, answer_text}
+use Rattle.exec_finish.specs.Answer.{line, ok_line}
+use Rattle.commit_core.specs.Query.{answer_of}
 use Rattle.commit_core.specs.Write.{Effect, accepted, range, full, effect_of}
 use Rattle.commit_core.specs.Plan.{Plan, refused, read, write, plan_of}
 use Rattle.commit_core.specs.declared.reply.Reply.{Reply}
@@ -24,7 +25,7 @@ told_effect full = record { accepted = false; body = full_line }
 -- What a plan is told over a state.
 abbrev pub told_plan : Plan → State → Told
 told_plan (refused refusal) state = record { accepted = false; body = refusal }
-told_plan (read query) state = record { accepted = false; body = answer_text (values_found query state) }
+told_plan (read question) state = record { accepted = false; body = answer_of question state }
 told_plan (write change) state = told_effect (effect_of change state)
 
 -- What a text is told over a state.
@@ -44,7 +45,7 @@ state_left state full = state
 -- The state that a plan leaves.
 abbrev pub state_behind : Plan → State → State
 state_behind (refused refusal) state = state
-state_behind (read query) state = state
+state_behind (read question) state = state
 state_behind (write change) state = state_left state (effect_of change state)
 
 -- The state after one more text.

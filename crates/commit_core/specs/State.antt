@@ -1,9 +1,14 @@
 -- What a store holds: its collections with their documents.
 use Rattle.std.specs.Prelude.{◌≡◌, ℕ, ◌<◌, ◌≤◌, List, [], Bool, length, map, Option, Some, None, slice_get}
-use Rattle.std.specs.List.{find}
+use Rattle.std.specs.List.{All, Contains, find}
 use Rattle.std.specs.Str.{bytes_eq}
-use Rattle.doc_values.specs.Doc.{Fields, IsDocument}
+use Rattle.doc_values.specs.Doc.{Fields}
+use Rattle.doc_values.specs.Value.{kind_of}
+use Rattle.doc_values.specs.Weight.{weight_of}
 use Rattle.doc_values.specs.declared.kind.Kind.{Kind}
+use Rattle.doc_values.specs.declared.value.Value.{Value}
+use Rattle.doc_flatten.specs.Documents.{IsWithinLimits}
+use Rattle.attr_catalog.specs.Catalog.{most_versions}
 
 -- How many collections a state may have.
 abbrev pub most_collections : ℕ
@@ -13,9 +18,9 @@ most_collections = 256
 abbrev pub most_pairs : ℕ
 most_pairs = 65536
 
--- How many versions may be written into one collection.
-abbrev pub most_versions : ℕ
-most_versions = 2097152
+-- The most that a document weighs: 16 bytes for each byte of the text that loads it.
+abbrev pub most_weight : ℕ
+most_weight = 16777216
 
 -- A document in its row.
 pub record Row : Type 0 where
@@ -55,14 +60,24 @@ documents_of_rows (Some collection) = map (λ row. row.document) collection.rows
 abbrev pub documents_at : List ℕ → State → List Fields
 documents_at name state = documents_of_rows (collection_at name state)
 
+-- The pair of name and kind that a field has.
+abbrev pub pair_of : List ℕ × Value → List ℕ × Kind
+pair_of field = (field.0, kind_of field.1)
+
+-- A document of a collection with these pairs: it keeps the limits of documents, weighs no more than it may, and the pair of each of its fields is among them.
+pub record IsDocumentOf (pairs : List (List ℕ × Kind)) (document : Fields) : Type 0 where
+  pub limits : IsWithinLimits document
+  pub light : weight_of document ≤ most_weight
+  pub paired : All (λ field. Contains pairs (pair_of field)) document
+
 -- The rules that a collection keeps.
 pub record IsCollection (collection : Collection) : Type 0 where
   -- the numbers of its rows ascend
   pub ascending : (i j : ℕ) (a b : Row) → i < j → slice_get collection.rows i ≡ Some a → slice_get collection.rows j ≡ Some b → a.number < b.number
   -- each of them is below the number of the next row
   pub below : (i : ℕ) (row : Row) → slice_get collection.rows i ≡ Some row → row.number < collection.next_row
-  -- each row has a document
-  pub documents : (i : ℕ) (row : Row) → slice_get collection.rows i ≡ Some row → IsDocument row.document
+  -- each row has a document of the collection
+  pub documents : (i : ℕ) (row : Row) → slice_get collection.rows i ≡ Some row → IsDocumentOf collection.pairs row.document
   -- no pair of name and kind stands twice
   pub once : (i j : ℕ) (a b : List ℕ × Kind) → slice_get collection.pairs i ≡ Some a → slice_get collection.pairs j ≡ Some b → a ≡ b → i ≡ j
   -- it has no more pairs than it may have

@@ -3,18 +3,14 @@ use Rattle.std.specs.Prelude.{ℕ, ◌+◌, List, [], ◌∷◌, ◌++◌, Bool,
 use Rattle.std.specs.List.{list_any}
 use Rattle.std.specs.Str.{bytes_eq}
 use Rattle.doc_values.specs.Doc.{Fields}
-use Rattle.doc_values.specs.Value.{kind_of}
 use Rattle.doc_values.specs.declared.kind.Kind.{Kind}
 use Rattle.doc_values.specs.declared.kind.Kind.TheVariants as kind
-use Rattle.commit_core.specs.State.{Row, Collection, State, is_named, collection_at, most_collections, most_pairs, most_versions}
+use Rattle.attr_catalog.specs.Catalog.{most_versions}
+use Rattle.commit_core.specs.State.{Row, Collection, State, is_named, collection_at, most_collections, most_pairs, pair_of}
 
 -- A write: a load of documents into a collection.
 pub data Write : Type 0 where
   loads : List ℕ → List Fields → Write
-
--- The most that a document of a load weighs: 16 bytes for each byte of a statement's text.
-abbrev pub most_weight : ℕ
-most_weight = 16777216
 
 -- What becomes of a write: it is accepted, with the state after it and a number of rows; or a number leaves its range; or the store is full.
 pub data Effect : Type 0 where
@@ -46,7 +42,7 @@ with_pair pairs pair = if list_any (same_pair pair) pairs then pairs else pairs 
 
 -- The pairs with those of a document's fields.
 abbrev pub with_fields : List (List ℕ × Kind) → Fields → List (List ℕ × Kind)
-with_fields pairs fields = fold with_pair pairs (map (λ field. (field.0, kind_of field.1)) fields)
+with_fields pairs fields = fold with_pair pairs (map pair_of fields)
 
 -- A collection that nothing was put into.
 abbrev pub new_collection : List ℕ → Collection

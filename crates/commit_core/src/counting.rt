@@ -1,6 +1,6 @@
 ghost use Rattle.std.specs.Prelude.{ℕ, ◌≡◌, ◌+◌, ◌≤◌, ◌<◌, [], ◌∷◌, Some, All, length, slice_get};
 ghost use Rattle.attr_catalog.specs.Attribute.{Attribute};
-ghost use Rattle.commit_core.specs.State.{most_versions};
+ghost use Rattle.attr_catalog.specs.Catalog.{most_versions};
 ghost use Rattle.commit_core.specs.StoredDocument.{pairs_of, IsKept};
 ghost use Rattle.commit_core.specs.Loading.{HasCounted};
 

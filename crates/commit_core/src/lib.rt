@@ -5,18 +5,17 @@
 //! first: the reply to a text over a state, and the state after texts, are all that the layers above see.
 #![tactic(auto)]
 
-mod answer;
+mod answering;
 mod collections;
+mod column_path;
 mod counting;
 mod documents;
 mod entry;
-mod grammar_laws;
 mod laws;
 mod limits;
 mod lines;
 mod load_refusal;
 mod loading;
-mod member_path;
 mod parts;
 mod planned;
 mod prepared;
@@ -26,19 +25,15 @@ mod reading;
 mod record;
 mod record_reading;
 mod reply;
+mod row_reading;
 mod settings;
-mod spelled;
 mod state_laws;
-mod statement;
 mod store;
 mod stored_value;
 mod table;
-#[cfg(test)]
-mod tests;
-mod word;
+mod whole_document;
 
 pub use entry::Entry;
-pub use grammar_laws::{a_text_spells_one_statement, a_text_spells_what_is_read};
 pub use laws::every_reply_is_lines;
 pub use limits::Limits;
 pub use prepared::Prepared;

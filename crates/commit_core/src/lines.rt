@@ -1,16 +1,31 @@
 ghost use Rattle.std.specs.Prelude.{◌≡◌, IfOk};
-ghost use Rattle.commit_core.specs.Plan.{syntax_line, json_line};
-ghost use Rattle.commit_core.specs.Query.{ok_line};
+ghost use Rattle.commit_core.specs.Plan.{syntax_line, type_line, json_line};
+ghost use Rattle.exec_finish.specs.Answer.{ok_line};
 ghost use Rattle.commit_core.specs.Replies.{full_line};
 
 use doc_values::Bytes;
 use std::alloc::{AllocError, Global};
+use type_rules::TypeFault;
 
 /// The line for a text that spells no statement.
 pub(crate) fn syntax_line(alloc: Global) -> Result<Bytes, AllocError>
     ensures ok { IfOk result (λ line. line ≡ syntax_line) }
 {
     Ok(Bytes::from_vec(format!(in alloc; "! syntax\n")?.into_bytes()))
+}
+
+/// The line for a statement that breaks a rule.
+pub(crate) fn type_line(alloc: Global, fault: TypeFault) -> Result<Bytes, AllocError>
+    ensures ok { IfOk result (λ line. line ≡ type_line fault) }
+{
+    let rule = match fault {
+        TypeFault::Name => "name",
+        TypeFault::Group => "group",
+        TypeFault::Kind => "kind",
+        TypeFault::Wide => "wide",
+        TypeFault::Memory => "",
+    };
+    Ok(Bytes::from_vec(format!(in alloc; "! type {rule}\n")?.into_bytes()))
 }
 
 /// The line for a load whose document of this number is excluded; 0 where there are no documents.

@@ -2,8 +2,8 @@ ghost use Rattle.std.specs.Prelude.{◌≡◌, ◌≤◌, ◌<◌, [], ◌∷◌
 ghost use Rattle.doc_flatten.specs.Documents.{IsWithinLimits};
 ghost use Rattle.doc_values.specs.Weight.{weight_of};
 ghost use Rattle.reservoir_record.specs.Spelling.{values};
-ghost use Rattle.commit_core.specs.State.{most_pairs};
-ghost use Rattle.commit_core.specs.Write.{with_pair, with_fields, most_weight};
+ghost use Rattle.commit_core.specs.State.{most_pairs, most_weight};
+ghost use Rattle.commit_core.specs.Write.{with_pair, with_fields};
 ghost use Rattle.commit_core.specs.StoredDocument.{pairs_of, IsKept, IsTable};
 ghost use Rattle.commit_core.specs.Loading.{HasGrown, HaveEntries, fields_of, AreIn, HasDocuments, HasFront, HasLoaded, is_too_much};
 
@@ -42,7 +42,7 @@ pub(crate) fn load(
     let versions = records.len();
     match append_all(catalog, records, documents) {
         Ok(()) => {
-            let _few = catalog.len();
+            catalog.keeps_the_rules();
             count_all(catalog, &records[versions..]);
             Ok(())
         }
@@ -103,7 +103,7 @@ fn append(
 {
     documents_are_maps();
     number_fields(catalog, document, entries)?;
-    let _few = catalog.len();
+    catalog.keeps_the_rules();
     entries.sort_unstable();
     fill(parts, document, entries)?;
     records.push(parts.record(*records.allocator())?)?;

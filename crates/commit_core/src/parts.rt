@@ -3,7 +3,7 @@ ghost use Rattle.doc_values.specs.Value.{IsStorable};
 ghost use Rattle.reservoir_record.specs.Spelling.{AreFields, ArePartsOf};
 ghost use Rattle.reservoir_record.specs.declared.fields.Field.{Field};
 ghost use Rattle.commit_core.specs.StoredValue.{bytes_of};
-ghost use Rattle.commit_core.specs.Write.{most_weight};
+ghost use Rattle.commit_core.specs.State.{most_weight};
 
 use crate::record::Record;
 use crate::stored_value::push_value;

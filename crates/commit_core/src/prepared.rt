@@ -15,23 +15,23 @@ pub struct Prepared {
 impl Model for Prepared {
     ghost use Rattle.std.specs.Prelude.{◌≡◌, List, ℕ};
     ghost use Rattle.commit_core.specs.Plan.{plan_of};
-    ghost use Rattle.commit_core.specs.Planned.{plan_kept};
+    ghost use Rattle.commit_core.specs.Planned.{StandsFor};
 
     ghost Value = { List ℕ };
 
     ghost view = { λ p. p.text };
 
-    ghost invariant = { λ p. plan_kept p.planned ≡ plan_of p.text };
+    ghost invariant = { λ p. StandsFor p.planned (plan_of p.text) };
 }
 
 impl Prepared {
     ghost use Rattle.commit_core.specs.Plan.{plan_of};
-    ghost use Rattle.commit_core.specs.Planned.{plan_kept};
+    ghost use Rattle.commit_core.specs.Planned.{StandsFor};
     ghost use Rattle.commit_core.specs.Agreement.{sort_of};
 
     /// A text with what it comes to.
     pub(crate) fn new(text: Utf, planned: Planned) -> Prepared
-        requires { plan_kept planned ≡ plan_of text }
+        requires { StandsFor planned (plan_of text) }
         ensures exact { result ≡ text }
     {
         Prepared { text, planned }
@@ -43,7 +43,7 @@ impl Prepared {
     {
         match &self.planned {
             Planned::Refused(_) => PreparedSort::Refused,
-            Planned::Read { .. } => PreparedSort::Read,
+            Planned::Read(_) => PreparedSort::Read,
             Planned::Write { .. } => PreparedSort::Write,
         }
     }
@@ -57,7 +57,7 @@ impl Prepared {
 
     /// What the text comes to.
     pub(crate) fn planned(&self) -> &Planned
-        ensures exact { plan_kept result.now ≡ plan_of self.now }
+        ensures exact { StandsFor result.now (plan_of self.now) }
     {
         &self.planned
     }

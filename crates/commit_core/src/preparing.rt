@@ -1,19 +1,24 @@
-ghost use Rattle.std.specs.Prelude.{◌≡◌, IfOk};
+ghost use Rattle.std.specs.Prelude.{◌≡◌, ◌⊎◌, IfOk, Some};
+ghost use Rattle.sql_grammar.specs.StatementReader.{statement_of};
 ghost use Rattle.doc_flatten.specs.Documents.{documents_of};
-ghost use Rattle.commit_core.specs.Plan.{plan_of, load_plan};
-ghost use Rattle.commit_core.specs.Planned.{plan_kept};
+ghost use Rattle.type_rules.specs.Fault.{fault_of};
+ghost use Rattle.type_rules.specs.Written.{IsWritten};
+ghost use Rattle.commit_core.specs.Plan.{plan_of, plan_in, load_plan};
+ghost use Rattle.commit_core.specs.Planned.{StandsFor};
 
 use crate::documents::Documents;
-use crate::lines::{json_line, syntax_line};
+use crate::lines::{json_line, syntax_line, type_line};
 use crate::planned::Planned;
 use crate::prepared::Prepared;
-use crate::spelled::Spelled;
-use crate::statement::read_statement;
 use doc_flatten::{LoadFault, read_docs};
 use doc_values::Utf;
+use spelled_rules::what_is_spelled_is_written;
+use sql_grammar::{ParseFault, parse};
+use sql_tree::Statement;
 use std::alloc::{AllocError, Global};
+use type_rules::{TypeFault, Typed, typed};
 
-/// Reads a text, and the documents of a load.
+/// Reads a text, checks its statement, and reads the documents of a load.
 pub fn prepare(alloc: Global, text: &str) -> Result<Prepared, AllocError>
     ensures ok { IfOk result (λ p. p ≡ text.now) }
 {
@@ -23,24 +28,36 @@ pub fn prepare(alloc: Global, text: &str) -> Result<Prepared, AllocError>
 }
 
 fn plan(alloc: Global, text: &str) -> Result<Planned, AllocError>
-    ensures ok { IfOk result (λ planned. plan_kept planned ≡ plan_of text.now) }
+    ensures ok { IfOk result (λ planned. StandsFor planned (plan_of text.now)) }
 {
-    match read_statement(text) {
-        None => Ok(Planned::Refused(syntax_line(alloc)?)),
-        Some(Spelled::Load { collection, json }) => plan_load(alloc, collection, json),
-        Some(Spelled::Select { name, collection }) => Ok(Planned::Read {
-            name: Utf::of(alloc, name)?,
-            collection: Utf::of(alloc, collection)?,
-        }),
+    what_is_spelled_is_written();
+    match parse(alloc, text) {
+        Ok(statement) => plan_statement(alloc, &statement),
+        Err(ParseFault::Syntax) => Ok(Planned::Refused(syntax_line(alloc)?)),
+        Err(ParseFault::Memory) => Err(AllocError),
     }
 }
 
-fn plan_load(alloc: Global, collection: &str, json: &str) -> Result<Planned, AllocError>
-    ensures ok { IfOk result (λ planned. plan_kept planned ≡ load_plan collection.now (documents_of json.now)) }
+// The plan of a statement that some text spells.
+fn plan_statement(alloc: Global, statement: &Statement) -> Result<Planned, AllocError>
+    requires { IsWritten statement.now }
+    ensures ok { IfOk result (λ planned. StandsFor planned (plan_in (Some statement.now))) }
+{
+    match typed(alloc, statement) {
+        Ok(Typed::Load { collection, json }) => plan_load(alloc, collection, json.text()),
+        Ok(Typed::Select(question)) => Ok(Planned::Read(question)),
+        Ok(Typed::Update(_) | Typed::Delete(_)) => unreachable!(),
+        Err(TypeFault::Memory) => Err(AllocError),
+        Err(fault) => Ok(Planned::Refused(type_line(alloc, fault)?)),
+    }
+}
+
+fn plan_load(alloc: Global, collection: Utf, json: &str) -> Result<Planned, AllocError>
+    ensures ok { IfOk result (λ planned. StandsFor planned (load_plan collection (documents_of json.now))) }
 {
     match read_docs(alloc, json) {
         Ok(documents) => Ok(Planned::Write {
-            collection: Utf::of(alloc, collection)?,
+            collection,
             documents: Documents::from_vec(documents),
         }),
         Err(LoadFault::Json(number)) => Ok(Planned::Refused(json_line(alloc, number)?)),

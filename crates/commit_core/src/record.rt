@@ -68,6 +68,15 @@ impl Record {
         a_spelling_has_its_fields_in_place();
         field(&self.bytes, place).0
     }
+
+    /// The bytes of the field at a place.
+    pub(crate) fn bytes(&self, place: u32) -> &[u8]
+        requires { place < length self.now }
+        ensures exact { option_map (λ f. f.bytes) (slice_get self.now place) ≡ Some result.now }
+    {
+        a_spelling_has_its_fields_in_place();
+        field(&self.bytes, place).1
+    }
 }
 
 fn find_with<'a, L: Ledger>(bytes: &'a [u8], id: u32, blank: Blank) -> Option<&'a [u8]>

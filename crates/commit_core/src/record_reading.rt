@@ -1,5 +1,5 @@
-ghost use Rattle.std.specs.Prelude.{◌≡◌, All, map, IfOk};
-ghost use Rattle.commit_core.specs.StoredDocument.{value_of_kind as value_of_one, value_under as value_found, IsReadable, CanBeRead};
+ghost use Rattle.std.specs.Prelude.{◌≡◌, IfOk};
+ghost use Rattle.commit_core.specs.ReadBack.{value_of_kind as value_of_one, value_under as value_found, IsReadable, CanBeRead};
 
 use crate::record::Record;
 use crate::stored_value::read_value;
@@ -7,24 +7,12 @@ use attr_catalog::Kinds;
 use doc_values::{AttrId, Kind, Value};
 use std::alloc::{AllocError, Global};
 
-/// The value that each record has under a name.
-pub(crate) fn values_under(
+/// The value that a record has under a name, of whichever kind it is.
+pub(crate) fn value_under(
     alloc: Global,
     kinds: &Kinds,
-    records: &[Record],
-) -> Result<Vec<Option<Value>>, AllocError>
-    requires { All (CanBeRead kinds.now) records.now }
-    ensures ok { IfOk result (λ values. values.items ≡ map (value_found kinds.now) records.now) }
-{
-    let mut values = Vec::with_capacity(alloc, records.len())?;
-    for stored in records {
-        values.push(value_under(alloc, kinds, stored)?)?;
-    }
-    Ok(values)
-}
-
-// The value that a record has under a name, of whichever kind it is.
-fn value_under(alloc: Global, kinds: &Kinds, stored: &Record) -> Result<Option<Value>, AllocError>
+    stored: &Record,
+) -> Result<Option<Value>, AllocError>
     requires { CanBeRead kinds.now stored.now }
     ensures ok { IfOk result (λ value. value ≡ value_found kinds.now stored.now) }
 {
@@ -43,8 +31,8 @@ fn value_under(alloc: Global, kinds: &Kinds, stored: &Record) -> Result<Option<V
     value_of_kind(alloc, Kind::Object, kinds.object_id, stored)
 }
 
-// The value of one kind.
-fn value_of_kind(
+/// The value of one kind.
+pub(crate) fn value_of_kind(
     alloc: Global,
     kind: Kind,
     id: Option<AttrId>,

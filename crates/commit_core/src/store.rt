@@ -10,8 +10,9 @@ use crate::prepared::Prepared;
 use crate::prepared_sort::PreparedSort;
 use crate::reading::Reading;
 use crate::reply::Reply;
-use crate::state_laws::loads_are_light;
-use doc_values::{Bytes, Utf, Value};
+use crate::state_laws::{loads_are_light, states_keep_the_rules};
+use doc_values::{Bytes, Utf, documents_are_maps};
+use sql_eval::{Row, SelectPlan};
 use std::alloc::{AllocError, Global};
 use std::marker::Model;
 
@@ -35,10 +36,11 @@ impl Model for Core {
 }
 
 impl Core {
-    ghost use Rattle.commit_core.specs.Agreement.{Agrees, sort_of};
+    ghost use Rattle.commit_core.specs.Agreement.{Agrees, cells_of, sort_of};
     ghost use Rattle.commit_core.specs.Commits.{IsWrite, texts_of, told_over, state_of};
-    ghost use Rattle.commit_core.specs.Plan.{plan_of, write};
-    ghost use Rattle.commit_core.specs.Query.{values_found};
+    ghost use Rattle.commit_core.specs.Plan.{Plan, plan_of, write};
+    ghost use Rattle.commit_core.specs.Planned.{IsReadAs};
+    ghost use Rattle.commit_core.specs.Query.{documents_asked};
     ghost use Rattle.commit_core.specs.Replies.{reply_at};
     ghost use Rattle.commit_core.specs.Write.{loads};
 
@@ -90,16 +92,15 @@ impl Core {
     /// Begins a query at the newest number; nothing is read yet.
     pub fn begin(&self, prepared: &Prepared) -> Result<Reading, AllocError>
         requires { sort_of (plan_of prepared.now) ≡ PreparedSort.Read }
-        ensures ok { IfOk result (λ reading. reading ≡ record { text = prepared.now; at = length self.now; values = None }) }
+        ensures ok { IfOk result (λ reading. reading ≡ record { text = prepared.now; at = length self.now; rows = None }) }
         ensures agrees { IfOk result (λ reading. Agrees reading (texts_of self.now)) }
     {
-        let Planned::Read { name, collection } = prepared.planned() else {
+        let Planned::Read(plan) = prepared.planned() else {
             unreachable!()
         };
         Ok(Reading::new(
             prepared.text().copy()?,
-            name.copy()?,
-            collection.copy()?,
+            plan.copy(self.allocator())?,
             self.now(),
         ))
     }
@@ -107,13 +108,14 @@ impl Core {
     /// Reads all that a query asks for at the newest number.
     pub fn reread(&self, reading: &mut Reading) -> Result<(), AllocError>
         ensures ok { OnOk result (Agrees reading.new (texts_of self.now)) }
-        ensures read { OnOk result (IsSome reading.new.values) }
+        ensures read { OnOk result (IsSome reading.new.rows) }
         ensures exact { OnOk result ((reading.new.at ≡ length self.now) × (reading.new.text ≡ reading.old.text)) }
         ensures memory { OnErr result (reading.new ≡ reading.old) }
     {
-        let (name, collection) = reading.query();
-        let values = self.values(name, collection)?;
-        reading.fill(self.now(), values);
+        states_keep_the_rules();
+        documents_are_maps();
+        let rows = self.rows(reading.plan())?;
+        reading.fill(self.now(), rows);
         Ok(())
     }
 
@@ -162,12 +164,20 @@ impl Core {
         }
     }
 
-    // The values that a query finds.
-    fn values(&self, name: &Utf, collection: &Utf) -> Result<Vec<Option<Value>>, AllocError>
-        ensures ok { IfOk result (λ values. values.items ≡ values_found (record { name = name.now; collection = collection.now }) (state_of self.now)) }
+    // The rows that a question reads.
+    fn rows(&self, plan: &SelectPlan) -> Result<Vec<Row>, AllocError>
+        requires { (p : Plan) × IsReadAs plan.now p }
+        ensures ok { IfOk result (λ rows. (p : Plan) (asked : IsReadAs plan.now p) → rows.items ≡ map (cells_of asked.question) (documents_asked asked.question (state_of self.now))) }
     {
+        states_keep_the_rules();
+        let Some(collection) = plan.from.tables.get(0) else {
+            unreachable!()
+        };
+        let Some(columns) = plan.refs.get(0) else {
+            unreachable!()
+        };
         match self.collections.get(collection.text()) {
-            Some(table) => table.values(name.text()),
+            Some(table) => table.rows(columns.as_slice(), plan.star),
             None => Ok(Vec::new(self.allocator())),
         }
     }

@@ -53,6 +53,7 @@ fn is_text(text: &Utf)
 pub(crate) fn read_value(alloc: Global, kind: Kind, bytes: &[u8]) -> Result<Value, AllocError>
     requires { AreReadable kind bytes.now }
     ensures ok { IfOk result (λ value. value ≡ value_in kind bytes.now) }
+    ensures storable { IfOk result IsStorable }
 {
     match kind {
         Kind::Bool => Ok(Value::Bool(bytes[0] == 1)),

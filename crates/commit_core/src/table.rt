@@ -5,9 +5,10 @@ use crate::documents::Documents;
 use crate::load_refusal::LoadRefusal;
 use crate::loading::load;
 use crate::record::Record;
-use crate::record_reading::values_under;
+use crate::row_reading::{paths, rows_along};
 use attr_catalog::Catalog;
-use doc_values::{Utf, Value, documents_are_maps};
+use doc_values::{ColRef, Utf, documents_are_maps};
+use sql_eval::Row;
 use std::alloc::{AllocError, Global};
 use std::marker::Model;
 
@@ -31,9 +32,11 @@ impl Model for Table {
 }
 
 impl Table {
-    ghost use Rattle.doc_values.specs.Doc.{value_at};
+    ghost use Rattle.doc_values.specs.Doc.{IsDocument};
     ghost use Rattle.doc_values.specs.Weight.{weight_of};
-    ghost use Rattle.commit_core.specs.Write.{new_collection, with_documents, is_beyond, most_weight};
+    ghost use Rattle.commit_core.specs.State.{most_weight};
+    ghost use Rattle.commit_core.specs.Agreement.{cells_under};
+    ghost use Rattle.commit_core.specs.Write.{new_collection, with_documents, is_beyond};
 
     /// A collection that nothing was put into.
     pub(crate) fn new(alloc: Global, name: &str) -> Result<Table, AllocError>
@@ -65,13 +68,15 @@ impl Table {
         load(&mut self.catalog, &mut self.records, documents)
     }
 
-    /// What each document has under a name.
-    pub(crate) fn values(&self, name: &str) -> Result<Vec<Option<Value>>, AllocError>
-        ensures ok { IfOk result (λ values. values.items ≡ map (value_at name.now) (map (λ row. row.document) self.now.rows)) }
+    /// The row of each document: a value, or NULL, for each column, and the document where whole ones are asked for.
+    pub(crate) fn rows(&self, columns: &[ColRef], whole: bool) -> Result<Vec<Row>, AllocError>
+        requires { All (λ row. IsDocument row.document) self.now.rows }
+        ensures ok { IfOk result (λ rows. rows.items ≡ map (cells_under columns.now whole) (map (λ row. row.document) self.now.rows)) }
     {
         documents_are_maps();
-        let _once = self.catalog.len();
-        let kinds = self.catalog.kinds_of(name);
-        values_under(*self.records.allocator(), &kinds, &self.records)
+        self.catalog.keeps_the_rules();
+        let alloc = *self.records.allocator();
+        let paths = paths(alloc, &self.catalog, columns)?;
+        rows_along(alloc, &self.catalog, &paths, whole, &self.records)
     }
 }

@@ -2,8 +2,7 @@ use Rattle.std.proofs.Common.{◌≡◌, Err, sym, ap, ◌∙◌, ◌≤◌}
 use Rattle.std.proofs.lemmas.Result.{err_from_is_err_and}
 use Rattle.doc_values.specs.Doc.{Fields}
 use Rattle.doc_values.specs.Weight.{weight_of}
-use Rattle.commit_core.specs.State.{most_pairs}
-use Rattle.commit_core.specs.Write.{most_weight}
+use Rattle.commit_core.specs.State.{most_pairs, most_weight}
 use Rattle.commit_core.specs.StoredDocument.{pairs_of}
 use Rattle.commit_core.specs.declared.load_refusal.LoadRefusal.TheVariants.{Full}
 use Rattle.commit_core.proofs.Pairs.{grown_twice}

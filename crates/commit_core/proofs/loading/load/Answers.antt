@@ -1,5 +1,6 @@
 use Rattle.std.proofs.Common.{◌≡◌, ◌+◌, ◌≤◌, length, arith}
-use Rattle.commit_core.specs.State.{most_versions}
+use Rattle.attr_catalog.specs.Catalog.{most_versions}
+use Rattle.commit_core.proofs.Pairs.{unheld}
 use Rattle.commit_core.proofs.TableLoads.{mid_room, is_table, has_loaded}
 use Rattle.commit_core.proofs.loading.load.Goals as goal
 
@@ -25,3 +26,6 @@ returns-in-Ok-clause-ok c =
     let counted = rw (c.deref.ensures.value, v) at c.count_all.ensures.exact in
     has_loaded c.args.catalog.now c.append_all.new.catalog c.append_all.ensures.grown c.args.records.now.items c.append_all.new.records.items c.append_all.ensures.front c.requires.table c.args.documents.now c.in-Ok.ensures.ok room
     c.count_all.new.catalog counted c.in-Ok.ensures.pairs
+
+pub cut-requires-clause-unheld : goal.cut-requires-clause-unheld
+cut-requires-clause-unheld c = rw c.len-attributes.ensures.exact (unheld c.args.catalog.now c.append_all.new.catalog c.append_all.ensures.grown)

@@ -1,0 +1,30 @@
+use Rattle.std.proofs.Common.{◌∙◌, List, ℕ, option_map, Vec, Global, sym, ap, map, take, false}
+use Rattle.std.proofs.lemmas.Option.{same_Some}
+use Rattle.sql_eval.specs.declared.row.Row.{Row}
+use Rattle.commit_core.specs.Agreement.{cells_of}
+use Rattle.commit_core.specs.Plan.{plan_of}
+use Rattle.commit_core.specs.Query.{documents_asked}
+use Rattle.commit_core.specs.Replies.{state_after}
+use Rattle.commit_core.proofs.Agreements.{told_answer, answered_alike}
+use Rattle.commit_core.proofs.reading.Reading.finish.Goals as goal
+
+pub returns-clause-ok : goal.returns-clause-ok
+returns-clause-ok c =
+    rw (← c.self.view_is)
+    (λ texts agrees.
+    let asked = c.self.invariant.0 in
+    let text = c.self.inside.text in
+    let state = state_after (take c.self.inside.at texts) in
+    let found = agrees.found c.in-Some.rows.items (ap (option_map (λ (v : Vec Row Global). v.items)) c.in-Some.is) in
+    told_answer text agrees.question state c.self.inside.at c.in_ok-body.body agrees.planned
+    (answered_alike text asked.question agrees.question c.in-Some.rows.items (documents_asked agrees.question state) c.in_ok-body.body asked.planned agrees.planned found (λ ds e. c.in_ok-body.ensures.ok (plan_of text) asked ds e)))
+
+pub returns-clause-exact : goal.returns-clause-exact
+returns-clause-exact c =
+    rw (← c.self.view_is)
+    (λ question documents planned read_rows.
+    let asked = c.self.invariant.0 in
+    let text = c.self.inside.text in
+    let found = same_Some c.in-Some.rows.items (map (cells_of question) documents) (sym (ap (option_map (λ (v : Vec Row Global). v.items)) c.in-Some.is) ∙ read_rows) in
+    ap (λ (body : List ℕ). record { at = c.self.inside.at; accepted = false; body = body })
+    (answered_alike text asked.question question c.in-Some.rows.items documents c.in_ok-body.body asked.planned planned found (λ ds e. c.in_ok-body.ensures.ok (plan_of text) asked ds e)))
