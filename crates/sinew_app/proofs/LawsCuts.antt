@@ -6,8 +6,8 @@ use Rattle.std.specs.List.{AllByRecursion}
 use Rattle.std.proofs.lemmas.Bool.Decides.{nat_tests}
 use Rattle.std.proofs.lemmas.Bool.{true≢false}
 use Rattle.std.proofs.lemmas.List.Elements.{recursion_from_All}
-use Rattle.commit_core.specs.Lines.{is_mark, IsReplyLine, IsLines}
-use Rattle.commit_core.specs.Query.{line}
+use Rattle.exec_finish.specs.Lines.{is_mark, IsAnswerLine, IsLines}
+use Rattle.exec_finish.specs.Answer.{line}
 
 -- The text does not hold the byte.
 abbrev pub Free : ℕ → List ℕ → Type 0
@@ -63,11 +63,11 @@ abbrev pub Marked : List ℕ → Type 0
 Marked [] = ⊥
 Marked (c ∷ cs) = is_mark c ≡ true
 
-line_free : (l : List ℕ) → IsReplyLine l → Free 10 l
+line_free : (l : List ℕ) → IsAnswerLine l → Free 10 l
 line_free [] u = absurd u
 line_free (c ∷ cs) u = recursion_from_All (λ byte. byte ≢ 10) (c ∷ cs) u.1
 
-apart : (l x rest : List ℕ) → IsReplyLine l → Marked x → x ≡ l ++ rest → ⊥
+apart : (l x rest : List ℕ) → IsAnswerLine l → Marked x → x ≡ l ++ rest → ⊥
 apart [] x rest u m e = u
 apart (c ∷ cs) [] rest u m e = m
 apart (c ∷ cs) (d ∷ x) rest u m e =
@@ -81,7 +81,7 @@ lines_flat : (l : List ℕ) (ls : List (List ℕ)) (x : List ℕ) → flat_map l
 lines_flat l ls x = append_assoc (line l) (flat_map line ls) x ∙ line_flat l (flat_map line ls ++ x)
 
 -- Whole lines that no mark begins, before a text that a mark begins, are the same in the same text.
-pub cut_lines : (ls ms : List (List ℕ)) (x y : List ℕ) → AllByRecursion IsReplyLine ls → AllByRecursion IsReplyLine ms → Marked x → Marked y →
+pub cut_lines : (ls ms : List (List ℕ)) (x y : List ℕ) → AllByRecursion IsAnswerLine ls → AllByRecursion IsAnswerLine ms → Marked x → Marked y →
     flat_map line ls ++ x ≡ flat_map line ms ++ y → (flat_map line ls ≡ flat_map line ms) × (x ≡ y)
 cut_lines [] [] x y us vs p q e = (refl, e)
 cut_lines [] (m ∷ ms) x y us vs p q e = absurd (apart m x _ vs.0 p (e ∙ lines_flat m ms y))
@@ -94,5 +94,5 @@ cut_lines (l ∷ ls) (m ∷ ms) x y us vs p q e =
 -- Two replies' lines before a text that a mark begins.
 pub cut_bodies : (s t x y : List ℕ) → IsLines s → IsLines t → Marked x → Marked y → s ++ x ≡ t ++ y → x ≡ y
 cut_bodies s t x y a b p q e =
-    (cut_lines a.lines b.lines x y (recursion_from_All IsReplyLine a.lines a.each) (recursion_from_All IsReplyLine b.lines b.each) p q
+    (cut_lines a.lines b.lines x y (recursion_from_All IsAnswerLine a.lines a.each) (recursion_from_All IsAnswerLine b.lines b.each) p q
     (ap (λ (text : List ℕ). text ++ x) (sym a.whole) ∙ (e ∙ ap (λ (text : List ℕ). text ++ y) b.whole))).1

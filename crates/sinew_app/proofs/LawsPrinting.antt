@@ -7,7 +7,7 @@ use Rattle.std.proofs.lemmas.Map.Steps.{length-le_from_distinct_below}
 use Rattle.std.proofs.lemmas.Option.{slice_get_within, slice_get-map, same_Some}
 use Rattle.script_reader.specs.Laws.{AreToldApart, HaveSmallNumbers}
 use Rattle.script_reader.specs.declared.line.Line.{Line}
-use Rattle.commit_core.specs.Lines.{IsLines}
+use Rattle.exec_finish.specs.Lines.{IsLines}
 use Rattle.commit_core.specs.Replies.{told_of, reply_at, state_after}
 use Rattle.commit_core.specs.declared.reply.Reply.{Reply}
 use Rattle.sinew_app.specs.Run.{Run, text_at, texts_at, told_over, IsLegal}

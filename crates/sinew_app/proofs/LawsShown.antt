@@ -6,8 +6,8 @@ use Rattle.std.proofs.lemmas.Fmt.{decimal_injective}
 use Rattle.std.proofs.lemmas.List.{append_cancel_left}
 use Rattle.script_reader.specs.Laws.{AreToldApart, HaveSmallNumbers}
 use Rattle.script_reader.specs.declared.line.Line.{Line}
-use Rattle.commit_core.specs.Lines.{IsLines}
-use Rattle.commit_core.specs.Query.{line}
+use Rattle.exec_finish.specs.Lines.{IsLines}
+use Rattle.exec_finish.specs.Answer.{line}
 use Rattle.commit_core.specs.declared.reply.Reply.{Reply}
 use Rattle.sinew_app.specs.Printing.{name_of, name_in, answer_text, answers_text, commits_text, count_text}
 use Rattle.sinew_app.proofs.LawsCuts.{Free, cut, decimal_free, free_append, Marked, cut_bodies}

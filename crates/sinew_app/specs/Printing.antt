@@ -3,7 +3,7 @@ use Rattle.std.specs.Prelude.{ℕ, ◌+◌, List, [], ◌∷◌, ◌++◌, lengt
 use Rattle.script_reader.specs.declared.line.Line.{Line}
 use Rattle.script_reader.specs.declared.script_fault.ScriptFault.{ScriptFault}
 use Rattle.script_reader.specs.Why.{word_of}
-use Rattle.commit_core.specs.Query.{line}
+use Rattle.exec_finish.specs.Answer.{line}
 use Rattle.commit_core.specs.declared.reply.Reply.{Reply}
 use Rattle.sinew_app.specs.Run.{Run}
 

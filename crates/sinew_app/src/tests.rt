@@ -63,7 +63,7 @@ fn scripts_print_their_runs(rt: HostRuntime) -> Result<(), Fail> {
             b"#1.1 @1\nok 3\n#1.2 @1\n[1]\n[null]\n[-3]\nok 3\n= 1 1.1\n. 1\n",
         ),
         (
-            b"1\n1 DROP t\n1 SELECT a, b FROM t",
+            b"1\n1 DROP t\n1 SELECT a b c FROM t",
             b"#1.1 @0\n! syntax\n#1.2 @0\n! syntax\n#1.3 @0\n! syntax\n. 0\n",
         ),
         (
