@@ -4,7 +4,7 @@ use Rattle.std.specs.Option.{option_map_or}
 use Rattle.std.specs.Str.{bytes_eq}
 use Rattle.doc_values.specs.declared.attr_id.AttrId.{AttrId}
 use Rattle.doc_values.specs.declared.kind.Kind as kind
-use Rattle.doc_values.specs.Order.{rank}
+use Rattle.doc_values.specs.Order.{same_kind}
 use Rattle.attr_catalog.specs.declared.kinds.Kinds.{Kinds}
 use Rattle.attr_catalog.specs.Attribute.{Attribute, fresh}
 
@@ -22,7 +22,7 @@ most_versions = 2097152
 
 -- Whether the attribute is that of a name and a kind.
 abbrev pub is_of : List ℕ → kind.Kind → Attribute → Bool
-is_of name of a = bytes_eq name a.name && nat_eq (rank of) (rank a.kind)
+is_of name of a = bytes_eq name a.name && same_kind of a.kind
 
 -- The number at a place.
 abbrev pub number : ℕ → AttrId

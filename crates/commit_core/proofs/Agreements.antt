@@ -17,14 +17,16 @@ use Rattle.sql_tree.specs.declared.table.Table.{Table}
 use Rattle.sql_eval.specs.Contents.{Cells}
 use Rattle.sql_eval.specs.Meaning.{given, if_wanted}
 use Rattle.type_rules.specs.Uses.{columns_of}
+use Rattle.query_meaning.specs.Question.{answer_among}
+use Rattle.query_meaning.specs.Plans.{cells_of, rows_read}
+use Rattle.query_meaning.specs.Runs.{IsStorableRow}
 use Rattle.commit_core.specs.State.{State, IsState, documents_at}
-use Rattle.commit_core.specs.Query.{documents_asked, answer_among, answer_of}
+use Rattle.commit_core.specs.Query.{documents_asked, answer_of}
 use Rattle.commit_core.specs.Plan.{Plan, refused, read, write, plan_of}
 use Rattle.commit_core.specs.Replies.{reply_at, told_plan, told_of, state_after}
-use Rattle.commit_core.specs.Answering.{IsStorableRow}
 use Rattle.commit_core.proofs.States.{documents_at-documents}
 use Rattle.commit_core.specs.Commits.{texts_of, state_of}
-use Rattle.commit_core.specs.Agreement.{Agrees, cells_of}
+use Rattle.commit_core.specs.Agreement.{Agrees}
 use Rattle.commit_core.specs.declared.entry.Entry.{Entry}
 
 length-texts_of : (entries : List Entry) → length (texts_of entries) ≡ length entries
@@ -44,7 +46,7 @@ Agrees-none text question at entries planned all =
     none same = cc
 
 -- the rows that are read of the documents after all commits agree with them
-pub Agrees-all : (text : List ℕ) (question : Select) (entries : List Entry) (rows : List Cells) → plan_of text ≡ read question → rows ≡ map (cells_of question) (documents_asked question (state_of entries))
+pub Agrees-all : (text : List ℕ) (question : Select) (entries : List Entry) (rows : List Cells) → plan_of text ≡ read question → rows ≡ rows_read question (documents_asked question (state_of entries))
     → Agrees (record { text = text; at = length entries; rows = Some rows }) (texts_of entries)
 Agrees-all text question entries rows planned found =
     let e = length-texts_of entries in
@@ -53,7 +55,7 @@ Agrees-all text question entries rows planned found =
       question = question;
       planned = planned;
       reached = omega arith;
-      found = λ others same. Some-injective same ∙ found ∙ ap (λ texts. map (cells_of question) (documents_asked question (state_after texts))) (sym (take_all (length entries) (texts_of entries) whole));
+      found = λ others same. Some-injective same ∙ found ∙ ap (λ texts. rows_read question (documents_asked question (state_after texts))) (sym (take_all (length entries) (texts_of entries) whole));
     }
 
 -- ---- what is read can be computed with
@@ -74,7 +76,7 @@ cells_storable : StaysDocument → (d : Fields) → IsDocument d → (columns : 
 cells_storable law d h [] = tt
 cells_storable law d h (c ∷ cs) = (given_by c.want (value_at c.name d) (law d c.name h).2, cells_storable law d h cs)
 
-rows_storable : StaysDocument → (s : Select) (ds : List Fields) → EachIs IsDocument ds → EachIs IsStorableRow (map (cells_of s) ds)
+rows_storable : StaysDocument → (s : Select) (ds : List Fields) → EachIs IsDocument ds → EachIs IsStorableRow (rows_read s ds)
 rows_storable law s [] h = tt
 rows_storable law s (d ∷ ds) h = (All-from_recursion (λ cell. IfSome cell IsStorable) (cells_of s d).cells (cells_storable law d h.0 (columns_of s)), rows_storable law s ds h.1)
 
@@ -86,8 +88,8 @@ asked_documents s state h = by (slice_get s.tables 0)
     by (Some t) = documents_at-documents t.collection state h
 
 -- the rows that are read of the documents of a state hold numbers of documents
-pub read_storable : StaysDocument → (s : Select) (state : State) → IsState state → All IsStorableRow (map (cells_of s) (documents_asked s state))
-read_storable law s state h = All-from_recursion IsStorableRow (map (cells_of s) (documents_asked s state)) (rows_storable law s (documents_asked s state) (asked_documents s state h))
+pub read_storable : StaysDocument → (s : Select) (state : State) → IsState state → All IsStorableRow (rows_read s (documents_asked s state))
+read_storable law s state h = All-from_recursion IsStorableRow (rows_read s (documents_asked s state)) (rows_storable law s (documents_asked s state) (asked_documents s state h))
 
 -- ---- the reply of a reading
 
@@ -106,8 +108,8 @@ told_answer text question state at body planned e =
     ap (λ (b : List ℕ). reply_at at (record { accepted = false; body = b })) e ∙ sym (ap (λ (plan : Plan). reply_at at (told_plan plan state)) planned)
 
 -- what answers a question over rows answers the question of the same text
-pub answered_alike : (text : List ℕ) (a b : Select) (rows : List Cells) (ds : List Fields) (body : List ℕ) → plan_of text ≡ read a → plan_of text ≡ read b → rows ≡ map (cells_of b) ds
-    → ((es : List Fields) → rows ≡ map (cells_of a) es → body ≡ answer_among a es) → body ≡ answer_among b ds
+pub answered_alike : (text : List ℕ) (a b : Select) (rows : List Cells) (ds : List Fields) (body : List ℕ) → plan_of text ≡ read a → plan_of text ≡ read b → rows ≡ rows_read b ds
+    → ((es : List Fields) → rows ≡ rows_read a es → body ≡ answer_among a es) → body ≡ answer_among b ds
 answered_alike text a b rows ds body p q found told =
     let same = same_question text a b p q in
-    told ds (found ∙ ap (λ (s : Select). map (cells_of s) ds) (sym same)) ∙ ap (λ (s : Select). answer_among s ds) same
+    told ds (found ∙ ap (λ (s : Select). rows_read s ds) (sym same)) ∙ ap (λ (s : Select). answer_among s ds) same

@@ -16,4 +16,3 @@ pub mod Places
 pub mod Lights
 mod StoredRows
 mod WholeDocuments
-mod Answered

@@ -7,7 +7,7 @@ use Rattle.doc_values.specs.Weight.{weight_of}
 use Rattle.doc_flatten.specs.Documents.{documents_of, IsWithinLimits}
 use Rattle.sql_tree.specs.declared.statement.Statement.{Statement}
 use Rattle.sql_tree.specs.declared.statement.Statement.TheVariants as statement
-use Rattle.sql_tokens.specs.Tokens.{most_bytes}
+use Rattle.sql_tokens.specs.Tokens.{most_statement_bytes}
 use Rattle.sql_grammar.specs.Statement as grammar
 use Rattle.sql_grammar.specs.StatementReader.{statement_of}
 use Rattle.type_rules.specs.declared.type_fault.TypeFault.{TypeFault}
@@ -33,7 +33,7 @@ abbrev Spelled : Type 0
 Spelled = (text : List ℕ) (s : Statement) → (statement_of text ≡ Some s) ↔ grammar.Spells text s
 
 -- the JSON of a load is no longer than a text may be
-json_fits : (text : List ℕ) (s : Statement) → grammar.Spells text s → (collection json : List ℕ) → s ≡ statement.Load collection json → length json ≤ most_bytes
+json_fits : (text : List ℕ) (s : Statement) → grammar.Spells text s → (collection json : List ℕ) → s ≡ statement.Load collection json → length json ≤ most_statement_bytes
 json_fits text (statement.Load found other) (grammar.load fits spells) collection json e =
     let same : other ≡ json = cc in
     omega (arith, fits, ap length same, simp length-append at (ap length spells.parts))
@@ -52,7 +52,7 @@ module _ (keeps : KeepsLimits) (gives : GivesLight) (spelled : Spelled) (text na
   light_by (statement.Delete collection test) None is e = absurd (cc)
   light_by (statement.Load collection json) None is e =
       let read : documents_of json ≡ Ok docs = documents_read collection (documents_of json) name docs e in
-      let short : length json ≤ most_bytes = json_fits text (statement.Load collection json) ((spelled text (statement.Load collection json)).0 is) collection json refl in (
+      let short : length json ≤ most_statement_bytes = json_fits text (statement.Load collection json) ((spelled text (statement.Load collection json)).0 is) collection json refl in (
         keeps json docs read,
         All-weaker (λ doc. weight_of doc ≤ 16 * length json) (λ doc. weight_of doc ≤ most_weight) (λ doc h. omega (arith, h, short)) docs (gives json docs read),
       )

@@ -16,7 +16,8 @@ use Rattle.doc_values.specs.declared.value.Value.{Value}
 use Rattle.attr_catalog.specs.Attribute.{Attribute, fresh}
 use Rattle.attr_catalog.specs.Catalog.{is_of, number, id_of}
 use Rattle.attr_catalog.specs.Catalog as catalog
-use Rattle.commit_core.specs.Write.{same_kind, same_pair, with_pair, with_fields}
+use Rattle.doc_values.specs.Order.{same_kind}
+use Rattle.commit_core.specs.Write.{same_pair, with_pair, with_fields}
 use Rattle.commit_core.specs.StoredDocument.{Pairs, pairs_of}
 use Rattle.commit_core.specs.Loading.{IsFresh, HasGrown}
 use Rattle.commit_core.proofs.StoredFields.{stands_for, pair_at}

@@ -11,7 +11,8 @@ use Rattle.doc_values.specs.declared.kind.Kind.TheVariants as kind
 use Rattle.doc_values.specs.declared.value.Value.{Value}
 use Rattle.std.specs.Str.{bytes_eq}
 use Rattle.commit_core.specs.State.{pair_of}
-use Rattle.commit_core.specs.Write.{same_kind, same_pair, with_pair, with_fields}
+use Rattle.doc_values.specs.Order.{same_kind}
+use Rattle.commit_core.specs.Write.{same_pair, with_pair, with_fields}
 use Rattle.commit_core.proofs.StoredFields.{contains_head, contains_later, both}
 
 abbrev Pairs : Type 0

@@ -7,7 +7,8 @@ use Rattle.doc_values.specs.Doc.{Fields}
 use Rattle.doc_values.specs.Value.{kind_of}
 use Rattle.doc_values.specs.declared.kind.Kind.{Kind}
 use Rattle.doc_values.specs.declared.kind.Kind.TheVariants as kind
-use Rattle.commit_core.specs.Write.{same_kind, same_pair, with_pair, with_fields}
+use Rattle.doc_values.specs.Order.{same_kind}
+use Rattle.commit_core.specs.Write.{same_pair, with_pair, with_fields}
 
 abbrev Pairs : Type 0
 Pairs = List (List ℕ × Kind)

@@ -12,7 +12,8 @@ use Rattle.doc_values.specs.Weight.{weight_of}
 use Rattle.doc_values.specs.declared.kind.Kind.{Kind}
 use Rattle.doc_values.specs.declared.value.Value.{Value}
 use Rattle.doc_flatten.specs.Documents.{IsWithinLimits}
-use Rattle.commit_core.specs.State.{Row, Collection, State, pair_of, IsDocumentOf, IsCollection, IsState, opening, is_named, collection_at, documents_of_rows, documents_at, most_collections, most_pairs, most_weight}
+use Rattle.attr_catalog.specs.Catalog.{most_attributes}
+use Rattle.commit_core.specs.State.{Row, Collection, State, pair_of, IsDocumentOf, IsCollection, IsState, opening, is_named, collection_at, documents_of_rows, documents_at, most_collections, most_weight}
 use Rattle.attr_catalog.specs.Catalog.{most_versions}
 use Rattle.commit_core.specs.Write.{accepted, full, loads, rows_from, with_fields, new_collection, with_documents, with_load, is_beyond, is_there_beyond, is_full}
 use Rattle.commit_core.specs.Plan.{Plan, refused, read, write, plan_of}
@@ -78,10 +79,10 @@ origin collection documents all i row e =
     ]
 
 -- A collection that has no more than it may have.
-within : (collection : Collection) → is_beyond collection ≡ false → (length collection.pairs ≤ most_pairs) × (collection.versions ≤ most_versions)
+within : (collection : Collection) → is_beyond collection ≡ false → (length collection.pairs ≤ most_attributes) × (collection.versions ≤ most_versions)
 within collection e =
-    let both = or_parts (nat_lt most_pairs (length collection.pairs)) (nat_lt most_versions collection.versions) e in
-    (not_above most_pairs (length collection.pairs) both.0, not_above most_versions collection.versions both.1)
+    let both = or_parts (nat_lt most_attributes (length collection.pairs)) (nat_lt most_versions collection.versions) e in
+    (not_above most_attributes (length collection.pairs) both.0, not_above most_versions collection.versions both.1)
 
 collection_more : (collection : Collection) (documents : List Fields) → EachIs IsLight documents → IsCollection collection → is_beyond (with_documents documents collection) ≡ false
     → IsCollection (with_documents documents collection)

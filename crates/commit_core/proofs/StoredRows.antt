@@ -20,7 +20,7 @@ use Rattle.reservoir_record.specs.Finding.{value_of}
 use Rattle.attr_catalog.specs.Attribute.{Attribute}
 use Rattle.attr_catalog.specs.Catalog.{number, id_of, id_at, kinds_of, IsOnce}
 use Rattle.sql_eval.specs.Meaning.{given, if_wanted}
-use Rattle.commit_core.specs.Agreement.{cells_under}
+use Rattle.query_meaning.specs.Plans.{cells_under}
 use Rattle.commit_core.specs.State.{Row}
 use Rattle.commit_core.specs.ReadBack.{value_of_kind, CanBeRead}
 use Rattle.commit_core.specs.StoredDocument.{Pairs, pairs_of, document_stored, IsKept}

@@ -11,7 +11,8 @@ use Rattle.doc_values.specs.declared.kind.Kind.{Kind}
 use Rattle.reservoir_record.specs.declared.fields.Field.{Field}
 use Rattle.reservoir_record.specs.Finding.{value_of}
 use Rattle.attr_catalog.specs.Attribute.{Attribute}
-use Rattle.commit_core.specs.State.{Row, most_pairs}
+use Rattle.attr_catalog.specs.Catalog.{most_attributes}
+use Rattle.commit_core.specs.State.{Row}
 use Rattle.attr_catalog.specs.Catalog.{most_versions}
 use Rattle.commit_core.specs.Write.{rows_from, with_fields, with_documents}
 use Rattle.commit_core.specs.StoredDocument.{Pairs, pairs_of, document_stored, IsStored, IsHeld, IsKept, has_number, holders, IsInRecords, IsTable, collection_of}
@@ -158,18 +159,18 @@ or_true false = refl
 
 pub too_many_versions : (documents : List Fields) (attributes : List Attribute) (records : List (List Field)) → most_versions < length records + length documents → is_too_much documents attributes records ≡ true
 too_many_versions documents attributes records h =
-    ap (λ (b : Bool). nat_lt most_pairs (length (fold with_fields (pairs_of attributes) documents)) || b) (above most_versions (length records + length documents) h)
-    ∙ or_true (nat_lt most_pairs (length (fold with_fields (pairs_of attributes) documents)))
+    ap (λ (b : Bool). nat_lt most_attributes (length (fold with_fields (pairs_of attributes) documents)) || b) (above most_versions (length records + length documents) h)
+    ∙ or_true (nat_lt most_attributes (length (fold with_fields (pairs_of attributes) documents)))
 
-pub too_many_pairs : (documents : List Fields) (attributes : List Attribute) (records : List (List Field)) → most_pairs < length (fold with_fields (pairs_of attributes) documents) → is_too_much documents attributes records ≡ true
-too_many_pairs documents attributes records h = ap (λ (b : Bool). b || nat_lt most_versions (length records + length documents)) (above most_pairs (length (fold with_fields (pairs_of attributes) documents)) h)
+pub too_many_pairs : (documents : List Fields) (attributes : List Attribute) (records : List (List Field)) → most_attributes < length (fold with_fields (pairs_of attributes) documents) → is_too_much documents attributes records ≡ true
+too_many_pairs documents attributes records h = ap (λ (b : Bool). b || nat_lt most_versions (length records + length documents)) (above most_attributes (length (fold with_fields (pairs_of attributes) documents)) h)
 
 pub not_too_much : (documents : List Fields) (attributes mid : List Attribute) (records : List (List Field)) → pairs_of mid ≡ fold with_fields (pairs_of attributes) documents → length mid ≤ 65536 → length records + length documents ≤ most_versions
     → is_too_much documents attributes records ≡ false
 not_too_much documents attributes mid records pairs few room =
     let long : length (pairs_of mid) ≡ length mid = length-map mid (λ (a : Attribute). let pair : List ℕ × Kind = (a.name, a.kind) in pair) in
-    let le : length (fold with_fields (pairs_of attributes) documents) ≤ most_pairs = omega (arith, ap length pairs) in
-    ap (λ (b : Bool). b || nat_lt most_versions (length records + length documents)) (not_above most_pairs (length (fold with_fields (pairs_of attributes) documents)) le)
+    let le : length (fold with_fields (pairs_of attributes) documents) ≤ most_attributes = omega (arith, ap length pairs) in
+    ap (λ (b : Bool). b || nat_lt most_versions (length records + length documents)) (not_above most_attributes (length (fold with_fields (pairs_of attributes) documents)) le)
     ∙ not_above most_versions (length records + length documents) room
 
 -- ---- the collection

@@ -29,7 +29,8 @@ use Rattle.type_rules.specs.Places.{scope_of, item_terms}
 use Rattle.exec_finish.specs.Answer.{line, ok_line, finished}
 use Rattle.exec_finish.specs.Lines.{is_mark, IsAnswerLine, IsLines, HasOneLineValues}
 use Rattle.commit_core.specs.State.{State, documents_at, opening}
-use Rattle.commit_core.specs.Query.{documents_asked, tuples_of, is_kept, values_of, output_of, answer_among}
+use Rattle.query_meaning.specs.Question.{tuples_of, is_kept, values_of, output_of, answer_among}
+use Rattle.commit_core.specs.Query.{documents_asked}
 use Rattle.commit_core.specs.Write.{accepted, full, loads, with_load, is_full}
 use Rattle.commit_core.specs.Plan.{Plan, refused, read, write, plan_of, plan_in, lawful_plan, checked_plan, load_plan, syntax_line, type_line, json_line}
 use Rattle.commit_core.specs.Replies.{told_of, told_plan, told_effect, full_line, next_state, state_left, state_behind, state_after}

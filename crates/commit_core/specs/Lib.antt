@@ -11,4 +11,3 @@ pub mod StoredDocument
 pub mod Loading
 pub mod ReadBack
 pub mod StoredRow
-pub mod Answering

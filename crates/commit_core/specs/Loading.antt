@@ -8,7 +8,7 @@ use Rattle.reservoir_record.specs.Spelling.{ArePartsOf}
 use Rattle.attr_catalog.specs.Attribute.{Attribute, fresh}
 use Rattle.commit_core.specs.declared.parts.Parts.{Parts}
 use Rattle.attr_catalog.specs.Catalog.{most_versions}
-use Rattle.commit_core.specs.State.{most_pairs}
+use Rattle.attr_catalog.specs.Catalog.{most_attributes}
 use Rattle.commit_core.specs.Write.{with_fields}
 use Rattle.commit_core.specs.StoredValue.{bytes_of, AreReadable}
 use Rattle.commit_core.specs.StoredDocument.{Pairs, pairs_of, document_stored, IsKept, holders}
@@ -67,7 +67,7 @@ pub record HasCounted (records : List (List Field)) (old new : List Attribute) :
 
 -- Documents behind those of a table would be more, or have more pairs, than there may be.
 abbrev pub is_too_much : List Fields → List Attribute → List (List Field) → Bool
-is_too_much documents attributes records = nat_lt most_pairs (length (fold with_fields (pairs_of attributes) documents)) || nat_lt most_versions (length records + length documents)
+is_too_much documents attributes records = nat_lt most_attributes (length (fold with_fields (pairs_of attributes) documents)) || nat_lt most_versions (length records + length documents)
 
 -- Documents stand behind those that stood, and their pairs behind the others.
 pub record HasLoaded (documents : List Fields) (old new : List Attribute) (before after : List (List Field)) : Type 0 where

@@ -34,7 +34,7 @@ rule_word Memory = []
 abbrev pub type_line : TypeFault → List ℕ
 type_line fault = line (codes "! type " ++ rule_word fault)
 
--- The line for a load whose document of this number is excluded, or that has no documents.
+-- The line for a load that is refused for its document of this number, or with 0 because its text is no document and no array of documents.
 abbrev pub json_line : ℕ → List ℕ
 json_line number = line (codes "! json " ++ decimal number)
 

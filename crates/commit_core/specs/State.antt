@@ -8,15 +8,11 @@ use Rattle.doc_values.specs.Weight.{weight_of}
 use Rattle.doc_values.specs.declared.kind.Kind.{Kind}
 use Rattle.doc_values.specs.declared.value.Value.{Value}
 use Rattle.doc_flatten.specs.Documents.{IsWithinLimits}
-use Rattle.attr_catalog.specs.Catalog.{most_versions}
+use Rattle.attr_catalog.specs.Catalog.{most_attributes, most_versions}
 
 -- How many collections a state may have.
 abbrev pub most_collections : ℕ
 most_collections = 256
-
--- How many pairs of name and kind may ever be written into one collection.
-abbrev pub most_pairs : ℕ
-most_pairs = 65536
 
 -- The most that a document weighs: 16 bytes for each byte of the text that loads it.
 abbrev pub most_weight : ℕ
@@ -81,7 +77,7 @@ pub record IsCollection (collection : Collection) : Type 0 where
   -- no pair of name and kind stands twice
   pub once : (i j : ℕ) (a b : List ℕ × Kind) → slice_get collection.pairs i ≡ Some a → slice_get collection.pairs j ≡ Some b → a ≡ b → i ≡ j
   -- it has no more pairs than it may have
-  pub few_pairs : length collection.pairs ≤ most_pairs
+  pub few_pairs : length collection.pairs ≤ most_attributes
   -- and no more versions
   pub few_versions : collection.versions ≤ most_versions
 

@@ -4,9 +4,10 @@ use Rattle.std.specs.List.{list_any}
 use Rattle.std.specs.Str.{bytes_eq}
 use Rattle.doc_values.specs.Doc.{Fields}
 use Rattle.doc_values.specs.declared.kind.Kind.{Kind}
-use Rattle.doc_values.specs.declared.kind.Kind.TheVariants as kind
+use Rattle.doc_values.specs.Order.{same_kind}
 use Rattle.attr_catalog.specs.Catalog.{most_versions}
-use Rattle.commit_core.specs.State.{Row, Collection, State, is_named, collection_at, most_collections, most_pairs, pair_of}
+use Rattle.attr_catalog.specs.Catalog.{most_attributes}
+use Rattle.commit_core.specs.State.{Row, Collection, State, is_named, collection_at, most_collections, pair_of}
 
 -- A write: a load of documents into a collection.
 pub data Write : Type 0 where
@@ -22,15 +23,6 @@ pub data Effect : Type 0 where
 abbrev pub rows_from : ℕ → List Fields → List Row
 rows_from number [] = []
 rows_from number (document ∷ documents) = record { number = number; document = document } ∷ rows_from (number + 1) documents
-
--- Two kinds are the same.
-abbrev pub same_kind : Kind → Kind → Bool
-same_kind kind.Bool kind.Bool = true
-same_kind kind.Int kind.Int = true
-same_kind kind.Text kind.Text = true
-same_kind kind.Array kind.Array = true
-same_kind kind.Object kind.Object = true
-same_kind a b = false
 
 -- Two pairs of name and kind are the same.
 abbrev pub same_pair : List ℕ × Kind → List ℕ × Kind → Bool
@@ -67,7 +59,7 @@ with_load name documents (collection ∷ more) =
 
 -- The collection has more pairs of name and kind, or more versions, than it may have.
 abbrev pub is_beyond : Collection → Bool
-is_beyond collection = nat_lt most_pairs (length collection.pairs) || nat_lt most_versions collection.versions
+is_beyond collection = nat_lt most_attributes (length collection.pairs) || nat_lt most_versions collection.versions
 
 -- There is a collection, and it has more than it may have.
 abbrev pub is_there_beyond : Option Collection → Bool

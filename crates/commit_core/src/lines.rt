@@ -28,7 +28,7 @@ pub(crate) fn type_line(alloc: Global, fault: TypeFault) -> Result<Bytes, AllocE
     Ok(Bytes::from_vec(format!(in alloc; "! type {rule}\n")?.into_bytes()))
 }
 
-/// The line for a load whose document of this number is excluded; 0 where there are no documents.
+/// The line for a load that is refused for its document of this number; 0 where its text is no document and no array of them.
 pub(crate) fn json_line(alloc: Global, number: u64) -> Result<Bytes, AllocError>
     ensures ok { IfOk result (λ line. line ≡ json_line number) }
 {

@@ -2,7 +2,8 @@ ghost use Rattle.std.specs.Prelude.{◌≡◌, ◌≤◌, ◌<◌, [], ◌∷◌
 ghost use Rattle.doc_flatten.specs.Documents.{IsWithinLimits};
 ghost use Rattle.doc_values.specs.Weight.{weight_of};
 ghost use Rattle.reservoir_record.specs.Spelling.{values};
-ghost use Rattle.commit_core.specs.State.{most_pairs, most_weight};
+ghost use Rattle.attr_catalog.specs.Catalog.{most_attributes};
+ghost use Rattle.commit_core.specs.State.{most_weight};
 ghost use Rattle.commit_core.specs.Write.{with_pair, with_fields};
 ghost use Rattle.commit_core.specs.StoredDocument.{pairs_of, IsKept, IsTable};
 ghost use Rattle.commit_core.specs.Loading.{HasGrown, HaveEntries, fields_of, AreIn, HasDocuments, HasFront, HasLoaded, is_too_much};
@@ -67,7 +68,7 @@ fn append_all(
     ensures front { HasFront records.old.items records.new.items }
     ensures pairs { OnOk result (pairs_of catalog.new ≡ fold with_fields (pairs_of catalog.old) documents.now) }
     ensures ok { OnOk result (HasDocuments documents.now catalog.old catalog.new records.old.items records.new.items) }
-    ensures full { result ≡ Err LoadRefusal.Full → most_pairs < length (fold with_fields (pairs_of catalog.old) documents.now) }
+    ensures full { result ≡ Err LoadRefusal.Full → most_attributes < length (fold with_fields (pairs_of catalog.old) documents.now) }
 {
     let alloc = *records.allocator();
     let mut entries = Vec::new(alloc);
@@ -99,7 +100,7 @@ fn append(
     ensures front { HasFront records.old.items records.new.items }
     ensures pairs { OnOk result (pairs_of catalog.new ≡ with_fields (pairs_of catalog.old) document.now) }
     ensures ok { OnOk result (HasDocuments (document.now ∷ []) catalog.old catalog.new records.old.items records.new.items) }
-    ensures full { result ≡ Err LoadRefusal.Full → most_pairs < length (with_fields (pairs_of catalog.old) document.now) }
+    ensures full { result ≡ Err LoadRefusal.Full → most_attributes < length (with_fields (pairs_of catalog.old) document.now) }
 {
     documents_are_maps();
     number_fields(catalog, document, entries)?;
@@ -119,7 +120,7 @@ fn number_fields(
     ensures grown { HasGrown catalog.old catalog.new }
     ensures ok { OnOk result (HaveEntries (pairs_of catalog.new) 0 document.now entries.new.items) }
     ensures pairs { OnOk result (pairs_of catalog.new ≡ with_fields (pairs_of catalog.old) document.now) }
-    ensures full { result ≡ Err LoadRefusal.Full → most_pairs < length (with_fields (pairs_of catalog.old) document.now) }
+    ensures full { result ≡ Err LoadRefusal.Full → most_attributes < length (with_fields (pairs_of catalog.old) document.now) }
 {
     entries.clear();
     for place in 0..document.len() {
@@ -135,7 +136,7 @@ fn number_pair(catalog: &mut Catalog, name: &str, kind: Kind) -> Result<u32, Loa
     ensures grown { HasGrown catalog.old catalog.new }
     ensures number { IfOk result (λ id. slice_get (pairs_of catalog.new) id ≡ Some (name.now, kind)) }
     ensures pairs { OnOk result (pairs_of catalog.new ≡ with_pair (pairs_of catalog.old) (name.now, kind)) }
-    ensures full { result ≡ Err LoadRefusal.Full → most_pairs < length (with_pair (pairs_of catalog.old) (name.now, kind)) }
+    ensures full { result ≡ Err LoadRefusal.Full → most_attributes < length (with_pair (pairs_of catalog.old) (name.now, kind)) }
 {
     match catalog.add(name, kind) {
         Ok(id) => Ok(id.0),

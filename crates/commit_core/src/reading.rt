@@ -22,7 +22,7 @@ impl Model for Reading {
     ghost use Rattle.commit_core.specs.Agreement.{ReadingOf};
     ghost use Rattle.commit_core.specs.Plan.{plan_of};
     ghost use Rattle.commit_core.specs.Planned.{IsReadAs};
-    ghost use Rattle.commit_core.specs.Answering.{IsStorableRow};
+    ghost use Rattle.query_meaning.specs.Runs.{IsStorableRow};
 
     ghost Value = { ReadingOf };
 
@@ -36,11 +36,12 @@ impl Reading {
     ghost use Rattle.sql_tree.specs.declared.select.Select.{Select};
     ghost use Rattle.commit_core.specs.declared.entry.Entry.{Entry as EntryOf};
     ghost use Rattle.commit_core.specs.Commits.{texts_of};
-    ghost use Rattle.commit_core.specs.Agreement.{Agrees, cells_of};
-    ghost use Rattle.commit_core.specs.Query.{answer_among};
+    ghost use Rattle.commit_core.specs.Agreement.{Agrees};
+    ghost use Rattle.query_meaning.specs.Plans.{rows_read};
+    ghost use Rattle.query_meaning.specs.Question.{answer_among};
     ghost use Rattle.commit_core.specs.Plan.{plan_of, read};
     ghost use Rattle.commit_core.specs.Planned.{IsReadAs};
-    ghost use Rattle.commit_core.specs.Answering.{IsStorableRow};
+    ghost use Rattle.query_meaning.specs.Runs.{IsStorableRow};
 
     /// A reading of a text over so many commits, for which nothing was read yet.
     pub(crate) fn new(text: Utf, plan: SelectPlan, at: u64) -> Reading
@@ -77,7 +78,7 @@ impl Reading {
         requires { IsSome self.rows }
         ensures ok { IfOk result (λ r. (texts : List (List ℕ)) → Agrees self texts →
             r ≡ reply_at self.at (told_of self.text (state_after (take self.at texts)))) }
-        ensures exact { IfOk result (λ r. (question : Select) (documents : List Fields) → plan_of self.text ≡ read question → self.rows ≡ Some (map (cells_of question) documents) →
+        ensures exact { IfOk result (λ r. (question : Select) (documents : List Fields) → plan_of self.text ≡ read question → self.rows ≡ Some (rows_read question documents) →
             r ≡ record { at = self.at; accepted = false; body = answer_among question documents }) }
     {
         let Reading { plan, at, rows, .. } = self;

@@ -36,7 +36,8 @@ impl Model for Core {
 }
 
 impl Core {
-    ghost use Rattle.commit_core.specs.Agreement.{Agrees, cells_of, sort_of};
+    ghost use Rattle.commit_core.specs.Agreement.{Agrees, sort_of};
+    ghost use Rattle.query_meaning.specs.Plans.{rows_read};
     ghost use Rattle.commit_core.specs.Commits.{IsWrite, texts_of, told_over, state_of};
     ghost use Rattle.commit_core.specs.Plan.{Plan, plan_of, write};
     ghost use Rattle.commit_core.specs.Planned.{IsReadAs};
@@ -167,7 +168,7 @@ impl Core {
     // The rows that a question reads.
     fn rows(&self, plan: &SelectPlan) -> Result<Vec<Row>, AllocError>
         requires { (p : Plan) × IsReadAs plan.now p }
-        ensures ok { IfOk result (λ rows. (p : Plan) (asked : IsReadAs plan.now p) → rows.items ≡ map (cells_of asked.question) (documents_asked asked.question (state_of self.now))) }
+        ensures ok { IfOk result (λ rows. (p : Plan) (asked : IsReadAs plan.now p) → rows.items ≡ rows_read asked.question (documents_asked asked.question (state_of self.now))) }
     {
         states_keep_the_rules();
         let Some(collection) = plan.from.tables.get(0) else {

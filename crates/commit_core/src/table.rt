@@ -35,7 +35,7 @@ impl Table {
     ghost use Rattle.doc_values.specs.Doc.{IsDocument};
     ghost use Rattle.doc_values.specs.Weight.{weight_of};
     ghost use Rattle.commit_core.specs.State.{most_weight};
-    ghost use Rattle.commit_core.specs.Agreement.{cells_under};
+    ghost use Rattle.query_meaning.specs.Plans.{cells_under};
     ghost use Rattle.commit_core.specs.Write.{new_collection, with_documents, is_beyond};
 
     /// A collection that nothing was put into.

@@ -53,11 +53,12 @@ documents_in (boolean b) = Err 0
 documents_in (number n) = Err 0
 documents_in (string s) = Err 0
 
--- The documents of a text. Where it can't be read the fault is 0.
+-- The documents of a tree that was read; where none was, the fault is 0.
 abbrev pub documents_or_unread : Option Data → Result (List Fields) ℕ
 documents_or_unread None = Err 0
 documents_or_unread (Some d) = documents_in d
 
+-- The documents of a text.
 abbrev pub documents_of : List ℕ → Result (List Fields) ℕ
 documents_of text = documents_or_unread (read text)
 

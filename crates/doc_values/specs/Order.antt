@@ -1,5 +1,5 @@
 -- The order of values: by their kinds, and within a kind by what they hold.
-use Rattle.std.specs.Prelude.{◌≡◌, ◌↔◌, ℕ, Bool, not, Option, Some, None, IsSome, unwrap_or}
+use Rattle.std.specs.Prelude.{◌≡◌, ◌↔◌, ℕ, ◌==◌, Bool, not, Option, Some, None, IsSome, unwrap_or}
 use Rattle.std.specs.Ordering.{nat_cmp, int_cmp, bool_cmp, is_lt, is_eq, is_gt}
 use Rattle.std.specs.declared.cmp.Ordering.{Ordering}
 use Rattle.std.specs.declared.cmp.Ordering.TheVariants.{Less, Equal, Greater}
@@ -16,6 +16,10 @@ rank kind.TheVariants.Int = 1
 rank kind.TheVariants.Text = 2
 rank kind.TheVariants.Array = 3
 rank kind.TheVariants.Object = 4
+
+-- Two kinds are the same.
+abbrev pub same_kind : kind.Kind → kind.Kind → Bool
+same_kind a b = rank a == rank b
 
 -- How two values of one kind compare: false before true, numbers by size, texts and arrays by their bytes, objects alike.
 abbrev pub compared : value.Value → value.Value → Option Ordering

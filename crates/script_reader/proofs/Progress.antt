@@ -6,7 +6,7 @@ use Rattle.std.proofs.lemmas.List.{at_drop_more, at_drop_all, length_push, nil_f
 use Rattle.std.proofs.lemmas.Bool.{cases_lt, lt-ltb, le-ltb, eqb-true}
 use Rattle.std.proofs.lemmas.Str.{IsUtf8-nil}
 use Rattle.script_reader.specs.Pieces.{Said, nothing, statement, bad, said, without_empty_end, is_line_feed}
-use Rattle.script_reader.specs.Script.{script_of, first_fault, lines_behind, line_behind, unless_fault, most_bytes}
+use Rattle.script_reader.specs.Script.{script_of, first_fault, lines_behind, line_behind, unless_fault, most_script_bytes}
 use Rattle.script_reader.specs.declared.line.Line.{Line}
 use Rattle.script_reader.specs.declared.script_fault.ScriptFault.{ScriptFault}
 use Rattle.script_reader.specs.declared.why.Why.{Why}
@@ -91,20 +91,20 @@ same_lines before (piece ∷ next ∷ more) =
     ]
 
 -- Too many bytes.
-pub script_of_long : (bytes : List ℕ) → most_bytes < length bytes → script_of bytes ≡ Err (record { line = 0; why = Size })
-script_of_long bytes long = let e = lt-ltb most_bytes (length bytes) long in rw e refl
+pub script_of_long : (bytes : List ℕ) → most_script_bytes < length bytes → script_of bytes ≡ Err (record { line = 0; why = Size })
+script_of_long bytes long = let e = lt-ltb most_script_bytes (length bytes) long in rw e refl
 
 -- A script is short enough.
-pub short_if_good : (bytes : List ℕ) (lines : List Line) → script_of bytes ≡ Ok lines → length bytes ≤ most_bytes
+pub short_if_good : (bytes : List ℕ) (lines : List Line) → script_of bytes ≡ Ok lines → length bytes ≤ most_script_bytes
 short_if_good bytes lines good = ⊎_elim
     (λ long. let bad = script_of_long bytes long in absurd (cc))
     (λ short. short)
-    (cases_lt most_bytes (length bytes))
+    (cases_lt most_script_bytes (length bytes))
 
-module _ (bytes : List ℕ) (short : length bytes ≤ most_bytes) where
+module _ (bytes : List ℕ) (short : length bytes ≤ most_script_bytes) where
   script_of_short : script_of bytes ≡ unless_fault (first_fault 1 (map said (slice_split is_line_feed bytes))) (lines_behind [] (map said (slice_split is_line_feed bytes)))
   script_of_short =
-      let e = le-ltb most_bytes (length bytes) short in
+      let e = le-ltb most_script_bytes (length bytes) short in
       rw (e, same_fault 1 (slice_split is_line_feed bytes), same_lines [] (slice_split is_line_feed bytes)) refl
 
   pub script_of_bad : (fault : ScriptFault) → first_fault 1 (map said (slice_split is_line_feed bytes)) ≡ Some fault → script_of bytes ≡ Err fault

@@ -7,7 +7,7 @@ use Rattle.std.proofs.lemmas.Bool.{ltb-false}
 use Rattle.std.proofs.lemmas.List.{take-append-le, take_all, length_push, length-map}
 use Rattle.std.proofs.lemmas.List.Splits.{length-slice_split}
 use Rattle.script_reader.specs.Pieces.{Said, nothing, statement, bad, said, spoken, pieces_of, without_empty_end, is_line_feed, IsSession, is_blank, is_remark, statement_in, past, is_gap}
-use Rattle.script_reader.specs.Script.{script_of, first_fault, lines_behind, line_behind, unless_fault, most_bytes, IsScript}
+use Rattle.script_reader.specs.Script.{script_of, first_fault, lines_behind, line_behind, unless_fault, most_script_bytes, IsScript}
 use Rattle.script_reader.specs.declared.line.Line.{Line}
 use Rattle.script_reader.specs.declared.script_fault.ScriptFault.{ScriptFault}
 use Rattle.script_reader.specs.declared.why.Why.TheVariants.{Utf8}
@@ -102,7 +102,7 @@ good_lines : (fault : Option ScriptFault) (made lines : List Line) → unless_fa
 good_lines None made lines h = cc
 good_lines (Some fault) made lines h = absurd (cc)
 
-IsScript-from_lines : (bytes : List ℕ) → length bytes ≤ most_bytes → IsScript (lines_behind [] (map said (pieces_of bytes)))
+IsScript-from_lines : (bytes : List ℕ) → length bytes ≤ most_script_bytes → IsScript (lines_behind [] (map said (pieces_of bytes)))
 IsScript-from_lines bytes short =
     let keeps = lines_keep [] (pieces_of bytes) Keeps-nil in
     record {
@@ -111,11 +111,11 @@ IsScript-from_lines bytes short =
       few = omega (arith, length-lines_behind [] (map said (pieces_of bytes)), length-map (pieces_of bytes) said, length-pieces_of bytes);
     }
 
-script_is : (bytes : List ℕ) (lines : List Line) (long : Bool) (fault : ScriptFault) → nat_lt most_bytes (length bytes) ≡ long
+script_is : (bytes : List ℕ) (lines : List Line) (long : Bool) (fault : ScriptFault) → nat_lt most_script_bytes (length bytes) ≡ long
     → (if long then Err fault else unless_fault (first_fault 1 (map said (pieces_of bytes))) (lines_behind [] (map said (pieces_of bytes)))) ≡ Ok lines → IsScript lines
 script_is bytes lines true fault e h = absurd (cc)
 script_is bytes lines false fault e h = subst IsScript (good_lines _ _ lines h) (IsScript-from_lines bytes (ltb-false _ _ e))
 
 -- The script that bytes are keeps the rules.
 pub rules_kept : (bytes : List ℕ) (lines : List Line) → script_of bytes ≡ Ok lines → IsScript lines
-rules_kept bytes lines h = script_is bytes lines (nat_lt most_bytes (length bytes)) _ refl h
+rules_kept bytes lines h = script_is bytes lines (nat_lt most_script_bytes (length bytes)) _ refl h

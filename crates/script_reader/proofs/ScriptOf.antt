@@ -5,7 +5,7 @@ use Rattle.std.proofs.lemmas.Bool.{ltb-true, ltb-false, lt-ltb}
 use Rattle.std.proofs.lemmas.List.{take-append-le, take_all, length_push, length-map, map-append}
 use Rattle.std.proofs.lemmas.Option.{slice_get_within}
 use Rattle.script_reader.specs.Pieces.{Said, nothing, statement, bad, said, pieces_of}
-use Rattle.script_reader.specs.Script.{script_of, first_fault, lines_behind, line_behind, unless_fault, most_bytes, IsScript}
+use Rattle.script_reader.specs.Script.{script_of, first_fault, lines_behind, line_behind, unless_fault, most_script_bytes, IsScript}
 use Rattle.script_reader.specs.Relation.{statement_said, SaidAt, AreGood, IsScriptOf, HasFault, size, piece}
 use Rattle.script_reader.specs.declared.line.Line.{Line}
 use Rattle.script_reader.specs.declared.script_fault.ScriptFault.{ScriptFault}
@@ -138,9 +138,9 @@ same_Err None made fault h = absurd (cc)
 same_Err (Some found) made fault h = cc
 
 -- The bytes are not too many.
-short_is : (bytes : List ℕ) → length bytes ≤ most_bytes → script_of bytes ≡ unless_fault (first_fault 1 (map said (pieces_of bytes))) (lines_behind [] (map said (pieces_of bytes)))
-short_is bytes short = by (nat_lt most_bytes (length bytes)) refl where
-  by : (long : Bool) → nat_lt most_bytes (length bytes) ≡ long → script_of bytes ≡ unless_fault (first_fault 1 (map said (pieces_of bytes))) (lines_behind [] (map said (pieces_of bytes)))
+short_is : (bytes : List ℕ) → length bytes ≤ most_script_bytes → script_of bytes ≡ unless_fault (first_fault 1 (map said (pieces_of bytes))) (lines_behind [] (map said (pieces_of bytes)))
+short_is bytes short = by (nat_lt most_script_bytes (length bytes)) refl where
+  by : (long : Bool) → nat_lt most_script_bytes (length bytes) ≡ long → script_of bytes ≡ unless_fault (first_fault 1 (map said (pieces_of bytes))) (lines_behind [] (map said (pieces_of bytes)))
   by true e = absurd (omega (arith, ltb-true _ _ e))
   by false e = rw e refl
 
@@ -166,8 +166,8 @@ script_is_read bytes lines is =
     ∙ ap (λ made. Ok made) (determined [] lines saids is.keeps.behind is.stated)
 
 pub read_has_fault : (bytes : List ℕ) (fault : ScriptFault) → script_of bytes ≡ Err fault → HasFault bytes fault
-read_has_fault bytes fault h = by (nat_lt most_bytes (length bytes)) refl where
-  by : (long : Bool) → nat_lt most_bytes (length bytes) ≡ long → HasFault bytes fault
+read_has_fault bytes fault h = by (nat_lt most_script_bytes (length bytes)) refl where
+  by : (long : Bool) → nat_lt most_script_bytes (length bytes) ≡ long → HasFault bytes fault
   by true e =
       let same : record { line = 0; why = why.TheVariants.Size } ≡ fault = same_fault _ _ (sym (script_of_long bytes (ltb-true _ _ e)) ∙ h) in
       subst (λ (f : ScriptFault). HasFault bytes f) same (size (ltb-true _ _ e))
@@ -175,7 +175,7 @@ read_has_fault bytes fault h = by (nat_lt most_bytes (length bytes)) refl where
       same_fault : (a b : ScriptFault) → ◌≡◌ {A = Result (List Line) ScriptFault} (Err a) (Err b) → a ≡ b
       same_fault a b same = cc
   by false e =
-      let short : length bytes ≤ most_bytes = omega (arith, ltb-false _ _ e) in
+      let short : length bytes ≤ most_script_bytes = omega (arith, ltb-false _ _ e) in
       let first = first_at 1 (map said (pieces_of bytes)) fault (same_Err _ _ _ (sym (short_is bytes short) ∙ h)) in
       let numbered : first.place + 1 ≡ fault.line = omega (arith, first.numbered) in
       subst (λ n. HasFault bytes (record { line = n; why = fault.why })) numbered (piece short first.here first.before)

@@ -6,8 +6,8 @@ use Rattle.script_reader.specs.declared.script_fault.ScriptFault.{ScriptFault}
 use Rattle.script_reader.specs.declared.why.Why as why
 
 -- The most bytes that a script may have: 64 MiB.
-abbrev pub most_bytes : ℕ
-most_bytes = 67108864
+abbrev pub most_script_bytes : ℕ
+most_script_bytes = 67108864
 
 -- The first piece that is bad, with its number; the pieces are numbered on from the number given.
 abbrev pub first_fault : ℕ → List Said → Option ScriptFault
@@ -44,11 +44,11 @@ unless_fault (Some fault) lines = Err fault
 -- The script that bytes are, or their one fault: too many bytes, else the first bad piece.
 abbrev pub script_of : List ℕ → Result (List Line) ScriptFault
 script_of bytes =
-    if nat_lt most_bytes (length bytes) then Err (record { line = 0; why = why.TheVariants.Size })
+    if nat_lt most_script_bytes (length bytes) then Err (record { line = 0; why = why.TheVariants.Size })
     else unless_fault (first_fault 1 (map said (pieces_of bytes))) (lines_behind [] (map said (pieces_of bytes)))
 
 -- The rules that the lines of a script keep: each is the line that its statement makes behind those before it, by a session that there is, and there are at most as many as a script has bytes.
 pub record IsScript (lines : List Line) : Type 0 where
   pub behind : (k : ℕ) (line : Line) → slice_get lines k ≡ Some line → line ≡ line_behind (take k lines) line.session line.text
   pub known : (k : ℕ) (line : Line) → slice_get lines k ≡ Some line → IsSession line.session
-  pub few : length lines ≤ most_bytes
+  pub few : length lines ≤ most_script_bytes

@@ -1,6 +1,6 @@
 ghost use Rattle.std.specs.Prelude.{◌≡◌, ◌↔◌, ℕ, ◌<◌, ◌≤◌, List, Ok, Err, length};
 ghost use Rattle.script_reader.specs.Laws.{AreToldApart, ContainLinesAbove, FollowLinesAbove, HaveSmallNumbers};
-ghost use Rattle.script_reader.specs.Script.{IsScript, most_bytes, script_of};
+ghost use Rattle.script_reader.specs.Script.{IsScript, most_script_bytes, script_of};
 ghost use Rattle.script_reader.specs.Relation.{HasFault, IsScriptOf};
 ghost use Rattle.script_reader.specs.declared.line.Line.{Line};
 ghost use Rattle.script_reader.specs.declared.script_fault.ScriptFault.{ScriptFault};
@@ -8,8 +8,8 @@ ghost use Rattle.script_reader.specs.declared.why.Why.TheVariants.{Size};
 
 /// The law that more bytes than a script may have are no script.
 pub fn long_bytes_are_no_script()
-    ensures long { (bytes : List ℕ) → most_bytes < length bytes → script_of bytes ≡ Err (record { line = 0; why = Size }) }
-    ensures short { (bytes : List ℕ) (lines : List Line) → script_of bytes ≡ Ok lines → length bytes ≤ most_bytes }
+    ensures long { (bytes : List ℕ) → most_script_bytes < length bytes → script_of bytes ≡ Err (record { line = 0; why = Size }) }
+    ensures short { (bytes : List ℕ) (lines : List Line) → script_of bytes ≡ Ok lines → length bytes ≤ most_script_bytes }
 {}
 
 /// The law that the script which bytes are, or their fault, is the one that the relations name.

@@ -8,7 +8,7 @@ use Rattle.sinew_io.specs.Count.{HasCause, Rose}
 use Rattle.sinew_io.specs.Whole.{WritesAll, IsFailure}
 use Rattle.sinew_io.specs.declared.written.Written.{Written}
 use Rattle.sinew_io.specs.declared.written.Written.TheVariants as written
-use Rattle.script_reader.specs.Script.{script_of, most_bytes}
+use Rattle.script_reader.specs.Script.{script_of, most_script_bytes}
 use Rattle.script_reader.specs.declared.line.Line.{Line}
 use Rattle.script_reader.specs.declared.script_fault.ScriptFault.{ScriptFault}
 use Rattle.script_reader.specs.declared.why.Why as why
@@ -55,9 +55,9 @@ broken_refusal (Err e) lb la tb ta fault commits status is gave wrote none broke
 abbrev too_long : ScriptFault
 too_long = record { line = 0; why = why.TheVariants.Size }
 
-script-long : (input : List ℕ) → most_bytes < length input → script_of input ≡ Err too_long
+script-long : (input : List ℕ) → most_script_bytes < length input → script_of input ≡ Err too_long
 script-long input long =
-    let over : ltb most_bytes (length input) ≡ true = lt-ltb most_bytes (length input) long in
+    let over : ltb most_script_bytes (length input) ≡ true = lt-ltb most_script_bytes (length input) long in
     rw over refl
 
 -- What was read of a source that tells its bytes decides of all of them.

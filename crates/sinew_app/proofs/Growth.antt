@@ -12,7 +12,7 @@ use Rattle.commit_core.specs.Commits.{IsWrite, texts_of, with_entry}
 use Rattle.commit_core.specs.Replies.{Told, told_of, reply_at, state_after}
 use Rattle.commit_core.specs.declared.entry.Entry.{Entry}
 use Rattle.commit_core.specs.declared.reply.Reply.{Reply}
-use Rattle.sinew_app.specs.Run.{Run, text_of, text_at, texts_at, told_over, accepted_in, IsSerial}
+use Rattle.sinew_app.specs.Run.{Run, text_of, text_at, texts_at, told_by_line, accepted_in, IsSerial}
 use Rattle.sinew_app.specs.Step.{order_with, with_reply}
 use Rattle.sinew_app.proofs.Positions.{get_kept, get_last, old, added, place_of, get_take, length_order, order_kept, order_last, take_order, stays, joins, ordered}
 
@@ -42,7 +42,7 @@ texts_kept lines line (k ∷ order) below =
     cc
 
 told_kept : (lines : List Line) (line : Line) (order longer : List ℕ) (number k : ℕ) → Below (length lines) order → take number longer ≡ take number order → k < length lines →
-    told_over (lines ++ line ∷ []) longer number k ≡ told_over lines order number k
+    told_by_line (lines ++ line ∷ []) longer number k ≡ told_by_line lines order number k
 told_kept lines line order longer number k below same l =
     let all = lines ++ line ∷ [] in
     let texts = texts_kept lines line (take number order) (λ i j e. below i j (get_take number order i j e)) in
@@ -52,7 +52,7 @@ told_kept lines line order longer number k below same l =
 
 -- What one more line is told, after its run has the order that it had before.
 told_last : (lines : List Line) (line : Line) (order longer : List ℕ) (number k : ℕ) (commits : List Entry) → Below (length lines) order → take number longer ≡ order → k ≡ length lines →
-    texts_of commits ≡ texts_at lines order → told_over (lines ++ line ∷ []) longer number k ≡ told_of line.text (state_after (texts_of commits))
+    texts_of commits ≡ texts_at lines order → told_by_line (lines ++ line ∷ []) longer number k ≡ told_of line.text (state_after (texts_of commits))
 told_last lines line order longer number k commits below same e stored =
     let all = lines ++ line ∷ [] in
     let texts = texts_kept lines line order below ∙ sym stored in
@@ -124,8 +124,8 @@ stands_grown lines line run commits reply s k a e sure =
 
 committed_grown : (lines : List Line) (line : Line) (run : Run) (commits : List Entry) (reply : Reply) → Step lines line run commits reply →
     (i k : ℕ) → slice_get (Longer lines run reply) i ≡ Some k →
-    (slice_get (run.answers ++ reply ∷ []) k ≡ Some (reply_at (i + 1) (told_over (lines ++ line ∷ []) (Longer lines run reply) i k)))
-    × ((told_over (lines ++ line ∷ []) (Longer lines run reply) i k).accepted ≡ true)
+    (slice_get (run.answers ++ reply ∷ []) k ≡ Some (reply_at (i + 1) (told_by_line (lines ++ line ∷ []) (Longer lines run reply) i k)))
+    × ((told_by_line (lines ++ line ∷ []) (Longer lines run reply) i k).accepted ≡ true)
 committed_grown lines line run commits reply s i k e =
     let answered = s.serial.legal.answered in
     elim (ordered reply.accepted run.order (length lines) i k e) [
@@ -140,7 +140,7 @@ committed_grown lines line run commits reply s i k e =
           take_order reply.accepted run.order (length lines) i (omega arith) ∙ take_all i run.order (omega arith) in
           let told = told_last lines line run.order (Longer lines run reply) i k commits s.below same k-is s.stored in
           let number : reply.at ≡ i + 1 = omega (arith, rw sure at s.number) in
-          let reply-is : reply ≡ reply_at (i + 1) (told_over (lines ++ line ∷ []) (Longer lines run reply) i k) =
+          let reply-is : reply ≡ reply_at (i + 1) (told_by_line (lines ++ line ∷ []) (Longer lines run reply) i k) =
           s.replied ∙ (ap (λ (n : ℕ). reply_at n (told_of line.text (state_after (texts_of commits)))) number
           ∙ ap (λ (t : Told). reply_at (i + 1) t) (sym told)) in (
             get_last run.answers reply k (omega arith) ∙ ap (λ (r : Reply). Some r) reply-is,
@@ -150,7 +150,7 @@ committed_grown lines line run commits reply s i k e =
 
 other_grown : (lines : List Line) (line : Line) (run : Run) (commits : List Entry) (reply : Reply) → Step lines line run commits reply →
     (k : ℕ) (a : Reply) → slice_get (run.answers ++ reply ∷ []) k ≡ Some a → a.accepted ≡ false →
-    (a.at ≤ length (Longer lines run reply)) × (a ≡ reply_at a.at (told_over (lines ++ line ∷ []) (Longer lines run reply) a.at k))
+    (a.at ≤ length (Longer lines run reply)) × (a ≡ reply_at a.at (told_by_line (lines ++ line ∷ []) (Longer lines run reply) a.at k))
 other_grown lines line run commits reply s k a e out =
     let answered = s.serial.legal.answered in
     let more = length_order reply.accepted run.order (length lines) in
@@ -178,7 +178,7 @@ at_most_all lines run serial k a e = at_most a.accepted refl where
   at_most : (accepted : Bool) → a.accepted ≡ accepted → a.at ≤ length run.order
   at_most true sure =
       let stands = serial.legal.stands k a e sure in
-      let same : a ≡ reply_at (stands.0 + 1) (told_over lines run.order stands.0 k) =
+      let same : a ≡ reply_at (stands.0 + 1) (told_by_line lines run.order stands.0 k) =
       same_Some _ _ (sym e ∙ (serial.legal.committed stands.0 k stands.1).0) in
       let at-is : a.at ≡ stands.0 + 1 = ap (λ (r : Reply). r.at) same in
       omega (arith, slice_get_within run.order stands.0 k stands.1)

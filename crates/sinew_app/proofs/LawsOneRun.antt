@@ -7,7 +7,7 @@ use Rattle.std.proofs.lemmas.Option.{slice_get_within, get_or_from_slice_get, sa
 use Rattle.script_reader.specs.declared.line.Line.{Line}
 use Rattle.commit_core.specs.Replies.{Told, told_of, reply_at, state_after}
 use Rattle.commit_core.specs.declared.reply.Reply.{Reply}
-use Rattle.sinew_app.specs.Run.{Run, text_at, texts_at, told_over, accepted_in, IsSerial}
+use Rattle.sinew_app.specs.Run.{Run, text_at, texts_at, told_by_line, accepted_in, IsSerial}
 
 pub there : {A : Type 0} (xs : List A) (k : ℕ) → k < length xs → (x : A) × (slice_get xs k ≡ Some x)
 there [] k l = absurd (omega arith)
@@ -31,8 +31,8 @@ same_run a b orders answers =
 
 -- The reply to the line at a position, where so many lines above it are commits: it is told over these, and it is the next commit if it is accepted.
 record Answered (lines : List Line) (run : Run) (k number : ℕ) (reply : Reply) : Type 0 where
-  replied : reply ≡ reply_at (number + cond (told_over lines run.order number k).accepted 1 0) (told_over lines run.order number k)
-  joins : (told_over lines run.order number k).accepted ≡ true → slice_get run.order number ≡ Some k
+  replied : reply ≡ reply_at (number + cond (told_by_line lines run.order number k).accepted 1 0) (told_by_line lines run.order number k)
+  joins : (told_by_line lines run.order number k).accepted ≡ true → slice_get run.order number ≡ Some k
 
 answered : (lines : List Line) (run : Run) → IsSerial lines run → (k : ℕ) (reply : Reply) → slice_get run.answers k ≡ Some reply →
     Answered lines run k (accepted_in (take k run.answers)) reply
@@ -47,24 +47,24 @@ answered lines run serial k reply e = by reply.accepted refl where
   by true sure =
       let stands = serial.legal.stands k reply e sure in
       let committed = serial.legal.committed stands.0 k stands.1 in
-      let same : reply ≡ reply_at (stands.0 + 1) (told_over lines run.order stands.0 k) = same_Some _ _ (sym e ∙ committed.0) in
+      let same : reply ≡ reply_at (stands.0 + 1) (told_by_line lines run.order stands.0 k) = same_Some _ _ (sym e ∙ committed.0) in
       let at-is : reply.at ≡ stands.0 + 1 = ap (λ (r : Reply). r.at) same in
       let number-is : stands.0 ≡ number = omega (arith, rw sure at counted) in
-      let facts = subst (λ (n : ℕ). (reply ≡ reply_at (n + 1) (told_over lines run.order n k)) × ((told_over lines run.order n k).accepted ≡ true) × (slice_get run.order n ≡ Some k))
+      let facts = subst (λ (n : ℕ). (reply ≡ reply_at (n + 1) (told_by_line lines run.order n k)) × ((told_by_line lines run.order n k).accepted ≡ true) × (slice_get run.order n ≡ Some k))
       number-is (same, committed.1, stands.1) in
       record {
-        replied = facts.0 ∙ ap (λ (accepted : Bool). reply_at (number + cond accepted 1 0) (told_over lines run.order number k)) (sym facts.1);
+        replied = facts.0 ∙ ap (λ (accepted : Bool). reply_at (number + cond accepted 1 0) (told_by_line lines run.order number k)) (sym facts.1);
         joins = λ _. facts.2;
       }
   by false out =
       let other = serial.legal.other k reply e out in
       let number-is : reply.at ≡ number = omega (arith, rw out at counted) in
-      let same : reply ≡ reply_at number (told_over lines run.order number k) =
-      subst (λ (n : ℕ). reply ≡ reply_at n (told_over lines run.order n k)) number-is other.1 in
-      let refused : (told_over lines run.order number k).accepted ≡ false = sym (ap (λ (r : Reply). r.accepted) same) ∙ out in
-      let none : number ≡ number + cond (told_over lines run.order number k).accepted 1 0 = rw refused (omega arith) in
+      let same : reply ≡ reply_at number (told_by_line lines run.order number k) =
+      subst (λ (n : ℕ). reply ≡ reply_at n (told_by_line lines run.order n k)) number-is other.1 in
+      let refused : (told_by_line lines run.order number k).accepted ≡ false = sym (ap (λ (r : Reply). r.accepted) same) ∙ out in
+      let none : number ≡ number + cond (told_by_line lines run.order number k).accepted 1 0 = rw refused (omega arith) in
       record {
-        replied = same ∙ ap (λ (n : ℕ). reply_at n (told_over lines run.order number k)) none;
+        replied = same ∙ ap (λ (n : ℕ). reply_at n (told_by_line lines run.order number k)) none;
         joins = λ sure. absurd (cc);
       }
 
@@ -87,7 +87,7 @@ module _ (lines : List Line) (a b : Run) (serial-a : IsSerial lines a) (serial-b
     answers : take k a.answers ≡ take k b.answers
     order : take (accepted_in (take k a.answers)) a.order ≡ take (accepted_in (take k a.answers)) b.order
 
-  told_alike : (k : ℕ) → Alike k → told_over lines a.order (accepted_in (take k a.answers)) k ≡ told_over lines b.order (accepted_in (take k a.answers)) k
+  told_alike : (k : ℕ) → Alike k → told_by_line lines a.order (accepted_in (take k a.answers)) k ≡ told_by_line lines b.order (accepted_in (take k a.answers)) k
   told_alike k s = ap (λ (taken : List ℕ). told_of (text_at lines k) (state_after (texts_at lines taken))) s.order
 
   orders_alike : (k n : ℕ) (told-a told-b : Told) (accepted : Bool) → take n a.order ≡ take n b.order → told-a ≡ told-b → told-a.accepted ≡ accepted →
@@ -109,15 +109,15 @@ module _ (lines : List Line) (a b : Run) (serial-a : IsSerial lines a) (serial-b
       let of-b = subst (λ (n : ℕ). Answered lines b k n in-b.0) (sym (ap (λ (front : List Reply). accepted_in front) s.answers)) (answered lines b serial-b k in-b.0 in-b.1) in
       let told = told_alike k s in
       let same : in-a.0 ≡ in-b.0 = of-a.replied ∙ (ap (λ (t : Told). reply_at (number + cond t.accepted 1 0) t) told ∙ sym of-b.replied) in
-      let accepted-is : in-a.0.accepted ≡ (told_over lines a.order number k).accepted = ap (λ (r : Reply). r.accepted) of-a.replied in
-      let counted : number + cond (told_over lines a.order number k).accepted 1 0 ≡ accepted_in (take (k + 1) a.answers) =
+      let accepted-is : in-a.0.accepted ≡ (told_by_line lines a.order number k).accepted = ap (λ (r : Reply). r.accepted) of-a.replied in
+      let counted : number + cond (told_by_line lines a.order number k).accepted 1 0 ≡ accepted_in (take (k + 1) a.answers) =
       sym (accepted_next a.answers k in-a.0 in-a.1 ∙ ap (λ (t : Bool). number + cond t 1 0) accepted-is) in
       record {
         answers = take_next a.answers k in-a.0 in-a.1
             ∙ (ap (λ (front : List Reply). front ++ in-a.0 ∷ []) s.answers
             ∙ (ap (λ (reply : Reply). take k b.answers ++ reply ∷ []) same ∙ sym (take_next b.answers k in-b.0 in-b.1)));
         order = subst (λ (m : ℕ). take m a.order ≡ take m b.order) counted
-            (orders_alike k number _ _ (told_over lines a.order number k).accepted s.order told refl of-a.joins of-b.joins);
+            (orders_alike k number _ _ (told_by_line lines a.order number k).accepted s.order told refl of-a.joins of-b.joins);
       }
 
   alike : (k : ℕ) → k ≤ length lines → Alike k

@@ -10,7 +10,7 @@ use Rattle.script_reader.specs.declared.line.Line.{Line}
 use Rattle.exec_finish.specs.Lines.{IsLines}
 use Rattle.commit_core.specs.Replies.{told_of, reply_at, state_after}
 use Rattle.commit_core.specs.declared.reply.Reply.{Reply}
-use Rattle.sinew_app.specs.Run.{Run, text_at, texts_at, told_over, IsLegal}
+use Rattle.sinew_app.specs.Run.{Run, text_at, texts_at, told_by_line, IsLegal}
 use Rattle.sinew_app.specs.Printing.{printing}
 use Rattle.sinew_app.proofs.LawsOneRun.{same_run}
 use Rattle.sinew_app.proofs.LawsShown.{Readable, answers_shown, commits_marked, commits_shown}
@@ -63,7 +63,7 @@ module _ (lines : List Line) (run : Run) (legal : IsLegal lines run) where
 
   -- The reply to the line that stands at a position of the order.
   commit_reply : (i k : ℕ) (reply : Reply) → slice_get run.order i ≡ Some k → slice_get run.answers k ≡ Some reply →
-      (reply ≡ reply_at (i + 1) (told_over lines run.order i k)) × (reply.accepted ≡ true)
+      (reply ≡ reply_at (i + 1) (told_by_line lines run.order i k)) × (reply.accepted ≡ true)
   commit_reply i k reply at e =
       let committed = legal.committed i k at in
       let same = same_Some _ _ (sym e ∙ committed.0) in
@@ -71,9 +71,9 @@ module _ (lines : List Line) (run : Run) (legal : IsLegal lines run) where
 
   -- Each reply counts at most all commits, and has what a text is told over some commits.
   reply_told : (k : ℕ) (reply : Reply) → slice_get run.answers k ≡ Some reply →
-      (n : ℕ) × (reply.at ≤ length run.order) × (reply.body ≡ (told_over lines run.order n k).body)
+      (n : ℕ) × (reply.at ≤ length run.order) × (reply.body ≡ (told_by_line lines run.order n k).body)
   reply_told k reply e = by reply.accepted refl where
-    by : (accepted : Bool) → reply.accepted ≡ accepted → (n : ℕ) × (reply.at ≤ length run.order) × (reply.body ≡ (told_over lines run.order n k).body)
+    by : (accepted : Bool) → reply.accepted ≡ accepted → (n : ℕ) × (reply.at ≤ length run.order) × (reply.body ≡ (told_by_line lines run.order n k).body)
     by true sure =
         let stands = legal.stands k reply e sure in
         let same = (commit_reply stands.0 k reply stands.1 e).0 in
@@ -101,15 +101,15 @@ module _ (lines : List Line) (a b : Run) (legal-a : IsLegal lines a) (legal-b : 
       let stands = legal-a.stands k ra ea sure in
       let of-a = commit_reply lines a legal-a stands.0 k ra stands.1 ea in
       let of-b = commit_reply lines b legal-b stands.0 k rb (subst (λ (order : List ℕ). slice_get order stands.0 ≡ Some k) orders stands.1) eb in
-      of-a.0 ∙ (ap (λ (order : List ℕ). reply_at (stands.0 + 1) (told_over lines order stands.0 k)) orders ∙ sym of-b.0)
+      of-a.0 ∙ (ap (λ (order : List ℕ). reply_at (stands.0 + 1) (told_by_line lines order stands.0 k)) orders ∙ sym of-b.0)
 
   others_same : (k : ℕ) (ra rb : Reply) → slice_get a.answers k ≡ Some ra → slice_get b.answers k ≡ Some rb → ra.at ≡ rb.at →
       ra.accepted ≡ false → rb.accepted ≡ false → ra ≡ rb
   others_same k ra rb ea eb at-is out-a out-b =
       let of-a = legal-a.other k ra ea out-a in
       let of-b = legal-b.other k rb eb out-b in
-      of-a.1 ∙ (ap (λ (order : List ℕ). reply_at ra.at (told_over lines order ra.at k)) orders
-      ∙ (ap (λ (n : ℕ). reply_at n (told_over lines b.order n k)) at-is ∙ sym of-b.1))
+      of-a.1 ∙ (ap (λ (order : List ℕ). reply_at ra.at (told_by_line lines order ra.at k)) orders
+      ∙ (ap (λ (n : ℕ). reply_at n (told_by_line lines b.order n k)) at-is ∙ sym of-b.1))
 
 module _ (lines : List Line) (a b : Run) (legal-a : IsLegal lines a) (legal-b : IsLegal lines b) where
   replies_same : a.order ≡ b.order → map (λ (reply : Reply). reply.at) a.answers ≡ map (λ (reply : Reply). reply.at) b.answers →

@@ -1,7 +1,7 @@
 -- What a run from a source to a sink leaves, for each status.
 use Rattle.std.specs.Prelude.{◌≡◌, ℕ, ◌+◌, ◌≤◌, ◌⊎◌, List, [], length, take, Option, Result, Ok, Err}
 use Rattle.sinew_io.specs.Told.{Gave, Took, NothingLeft}
-use Rattle.script_reader.specs.Script.{script_of, most_bytes}
+use Rattle.script_reader.specs.Script.{script_of, most_script_bytes}
 use Rattle.script_reader.specs.declared.line.Line.{Line}
 use Rattle.script_reader.specs.declared.script_fault.ScriptFault.{ScriptFault}
 use Rattle.commit_core.specs.Commits.{texts_of}
@@ -14,7 +14,7 @@ use Rattle.sinew_app.specs.Printing.{printing, refusal_text}
 -- The input was read: it is no longer than a script may be and the source had nothing left behind it, or it is one byte longer, whatever is left.
 pub record WasRead (left_before left_after : Option (List ℕ)) (input : List ℕ) : Type 0 where
   pub gave : Gave left_before left_after input
-  pub whole : ((length input ≤ most_bytes) × NothingLeft left_after) ⊎ (length input ≡ most_bytes + 1)
+  pub whole : ((length input ≤ most_script_bytes) × NothingLeft left_after) ⊎ (length input ≡ most_script_bytes + 1)
 
 -- The input is a script, the run is its serial run, and the store has the commits of its order.
 pub record WasRun (input : List ℕ) (lines : List Line) (run : Run) (commits : List Entry) : Type 0 where

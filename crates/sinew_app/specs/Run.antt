@@ -23,8 +23,8 @@ abbrev pub texts_at : List Line → List ℕ → List (List ℕ)
 texts_at lines order = map (text_at lines) order
 
 -- What the line at a position is told over the first so many commits of an order.
-abbrev pub told_over : List Line → List ℕ → ℕ → ℕ → Told
-told_over lines order number k = told_of (text_at lines k) (state_after (texts_at lines (take number order)))
+abbrev pub told_by_line : List Line → List ℕ → ℕ → ℕ → Told
+told_by_line lines order number k = told_of (text_at lines k) (state_after (texts_at lines (take number order)))
 
 -- A run is legal.
 pub record IsLegal (lines : List Line) (run : Run) : Type 0 where
@@ -36,10 +36,10 @@ pub record IsLegal (lines : List Line) (run : Run) : Type 0 where
   pub stands : (k : ℕ) (reply : Reply) → slice_get run.answers k ≡ Some reply → reply.accepted ≡ true → (i : ℕ) × (slice_get run.order i ≡ Some k)
   -- the i-th line of the order has number i, and its reply, which is accepted, is what its text is told over the commits before it
   pub committed : (i k : ℕ) → slice_get run.order i ≡ Some k →
-      (slice_get run.answers k ≡ Some (reply_at (i + 1) (told_over lines run.order i k))) × ((told_over lines run.order i k).accepted ≡ true)
+      (slice_get run.answers k ≡ Some (reply_at (i + 1) (told_by_line lines run.order i k))) × ((told_by_line lines run.order i k).accepted ≡ true)
   -- any other line has the number of some commits, and its reply is what its text is told over so many
   pub other : (k : ℕ) (reply : Reply) → slice_get run.answers k ≡ Some reply → reply.accepted ≡ false →
-      (reply.at ≤ length run.order) × (reply ≡ reply_at reply.at (told_over lines run.order reply.at k))
+      (reply.at ≤ length run.order) × (reply ≡ reply_at reply.at (told_by_line lines run.order reply.at k))
   -- a line's number is at least that of each line that it follows
   pub later : (j k p : ℕ) (line : Line) (before after : Reply) → slice_get lines k ≡ Some line → slice_get line.follows p ≡ Some j →
       slice_get run.answers j ≡ Some before → slice_get run.answers k ≡ Some after → before.at ≤ after.at

@@ -1,7 +1,7 @@
 ghost use Rattle.std.specs.Prelude.{◌≡◌, ◌+◌, Err, IfOk};
 ghost use Rattle.sinew_io.specs.Count.{HasCause};
 ghost use Rattle.sinew_io.specs.Whole.{GaveAtMost};
-ghost use Rattle.script_reader.specs.Script.{most_bytes};
+ghost use Rattle.script_reader.specs.Script.{most_script_bytes};
 ghost use Rattle.script_reader.specs.declared.script_fault.ScriptFault.{ScriptFault as ScriptFaultOf};
 ghost use Rattle.sinew_app.specs.Input.{GaveScript, GaveNoScript};
 
@@ -21,7 +21,7 @@ pub fn read_input<S: Source>(alloc: Global, source: &mut S) -> Result<Script, In
     ensures ok { IfOk result (λ lines. GaveScript (S.left source.old) (S.left source.new) lines) }
     ensures bad { (fault : ScriptFaultOf) → result ≡ Err (InputFault.Bad fault) →
         GaveNoScript (S.left source.old) (S.left source.new) fault }
-    ensures most { GaveAtMost (most_bytes + 1) (S.left source.old) (S.left source.new) }
+    ensures most { GaveAtMost (most_script_bytes + 1) (S.left source.old) (S.left source.new) }
     ensures cause { HasCause (S.faults source.old) (S.faults source.new) (result ≡ Err InputFault.Failed) }
 {
     let taken = read_up_to(alloc, source, MOST_BYTES)?;

@@ -1,7 +1,7 @@
 ghost use Rattle.std.specs.Prelude.{◌≡◌, ◌≢◌, ◌⊎◌, ◌+◌, [], List, ℕ, Some, Ok, Err};
 ghost use Rattle.sinew_io.specs.Count.{HasCause, Rose};
 ghost use Rattle.sinew_io.specs.Whole.{GaveAtMost};
-ghost use Rattle.script_reader.specs.Script.{script_of, most_bytes};
+ghost use Rattle.script_reader.specs.Script.{script_of, most_script_bytes};
 ghost use Rattle.script_reader.specs.declared.script_fault.ScriptFault.{ScriptFault};
 ghost use Rattle.sinew_app.specs.Outcome.{IsDone, IsRefused, IsBroken, IsUnwritten, IsDecided};
 
@@ -33,7 +33,7 @@ pub fn sinew_serial<S: Source, W: Sink>(
     ensures words { result ≢ Status.Words }
 
     // Whatever the status, no more is read than one byte beyond what a script may have.
-    ensures most { GaveAtMost (most_bytes + 1) (S.left source.old) (S.left source.new) }
+    ensures most { GaveAtMost (most_script_bytes + 1) (S.left source.old) (S.left source.new) }
 
     // A failed read or write comes only where the count of the device rose in this call.
     ensures read_cause { HasCause (S.faults source.old) (S.faults source.new) (result ≡ Status.Read) }

@@ -1,7 +1,7 @@
 ghost use Rattle.std.specs.Prelude.{◌≡◌, ◌+◌, [], Some};
 ghost use Rattle.sinew_io.specs.Kept.{told_bytes};
 ghost use Rattle.sinew_io.specs.Whole.{GaveAtMost};
-ghost use Rattle.script_reader.specs.Script.{script_of, most_bytes};
+ghost use Rattle.script_reader.specs.Script.{script_of, most_script_bytes};
 ghost use Rattle.sinew_app.specs.Outcome.{IsUnwritten, IsDecided};
 ghost use Rattle.sinew_app.specs.Sure.{PrintsRun, PrintsRefusal};
 
@@ -25,7 +25,7 @@ pub fn sinew_in_memory(
     ensures script { result ≡ Status.Script →
         PrintsRefusal source.old.left source.new.left (told_bytes sink.old) (told_bytes sink.new) store.new }
     ensures memory { result ≡ Status.Memory → IsUnwritten (told_bytes sink.old) (told_bytes sink.new) store.new }
-    ensures most { GaveAtMost (most_bytes + 1) (Some source.old.left) (Some source.new.left) }
+    ensures most { GaveAtMost (most_script_bytes + 1) (Some source.old.left) (Some source.new.left) }
     ensures decided { IsDecided (script_of source.old.left) result }
 {
     sinew_serial(alloc, settings, store, source, sink)

@@ -20,10 +20,11 @@ use Rattle.sql_eval.specs.declared.truth_value.Truth.TheVariants.{True, False, U
 use Rattle.sql_eval.specs.Truth as truths
 use Rattle.sql_eval.specs.Operators as operators
 use Rattle.sql_eval.specs.Kinds.{own_kind, wanted_beside}
-use Rattle.sql_eval.specs.Meaning.{Part, part_of, given, side_at, read, truth_in, number_in, comparison_of}
+use Rattle.sql_eval.specs.Sides.{side_at}
+use Rattle.sql_eval.specs.Meaning.{Part, part_of, given, read, truth_in, number_in, comparison_of}
 use Rattle.sql_eval.specs.Contents.{Cells}
 use Rattle.sql_eval.specs.Resolved.{value_over, added_over, cell_at}
-use Rattle.sql_eval.specs.Resolves.{IsReadAt, beside, among_written, between_written, Resolves, AllResolve, AddendsResolve, number, text, truth, null, column, wanted, disjunction, conjunction, negation, comparison, nullness, among, among_out, between, between_out, likeness, sum, product, minus, no_terms, more_terms, no_addends, more_addends, row_at, IsRowOf, HoldsReferences}
+use Rattle.sql_eval.specs.Resolves.{IsReadAt, beside, among_written, between_written, Resolves, AllResolve, AddendsResolve, number, text, truth, null, column, wanted, disjunction, conjunction, negation, comparison, nullness, among, among_out, between, between_out, likeness, sum, product, minus, no_terms, more_terms, no_addends, more_addends, IsRowOf, HoldsReferences}
 use Rattle.sql_eval.proofs.Expressions.{added_over-is}
 use Rattle.sql_eval.proofs.TermEquations as terms
 use Rattle.sql_eval.proofs.ValueEquations as exprs
@@ -59,7 +60,7 @@ module _ (scope : List (List ℕ)) (refs : List (List ColRef)) (sides : List (Op
   read_same : (r : Ref) (want : Option Kind) (s : Slot) → IsReadAt scope refs want r s → read scope sides r want ≡ cell_at tuple s
   read_same r want s at =
       ap (λ place. option_and_then (given r.name want) (option_and_then (side_at sides) place)) at.table
-      ∙ cell_given at.columns r.name want s.column (side_at sides s.table) (row_at tuple s.table) at.column (holds s.table at.columns at.listed)
+      ∙ cell_given at.columns r.name want s.column (side_at sides s.table) (side_at tuple s.table) at.column (holds s.table at.columns at.listed)
 
   -- A term and its expression: the kind by itself, and the meaning where a kind is wanted.
   record IsSame (want : Option Kind) (t : Term) (e : Expr) : Type 0 where

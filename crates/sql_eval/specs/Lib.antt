@@ -2,6 +2,7 @@ pub mod Truth
 pub mod Like
 pub mod Operators
 pub mod Kinds
+pub mod Sides
 pub mod Meaning
 pub mod Contents
 pub mod Resolved

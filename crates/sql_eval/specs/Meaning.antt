@@ -1,5 +1,5 @@
 -- What a term means over a tuple of documents: a value, or NULL.
-use Rattle.std.specs.Prelude.{ℕ, pos, neg_ℤ, ℤ, ◌==◌, List, map, Option, Some, None, option_map, option_and_then, slice_get, if◌then◌else◌}
+use Rattle.std.specs.Prelude.{ℕ, pos, neg_ℤ, ℤ, ◌==◌, List, map, Option, Some, None, option_map, option_and_then, if◌then◌else◌}
 use Rattle.std.specs.List.{position_from}
 use Rattle.std.specs.Str.{bytes_eq}
 use Rattle.doc_values.specs.declared.kind.Kind.{Kind}
@@ -9,7 +9,7 @@ use Rattle.doc_values.specs.declared.compare_op.CompareOp.TheVariants as compare
 use Rattle.doc_values.specs.declared.value.Value as value
 use Rattle.doc_values.specs.Value.{kind_of}
 use Rattle.doc_values.specs.Doc.{Fields, value_at}
-use Rattle.doc_values.specs.Order.{rank}
+use Rattle.doc_values.specs.Order.{same_kind}
 use Rattle.sql_tree.specs.declared.reference.Ref.{Ref}
 use Rattle.sql_tree.specs.declared.term.Term.{Term}
 use Rattle.sql_tree.specs.declared.term.Term.TheOpen.{Term-F, Addend-F}
@@ -17,12 +17,13 @@ use Rattle.sql_tree.specs.declared.term.Term.TheFolds.{fold-Term}
 use Rattle.sql_eval.specs.declared.truth_value.Truth.{Truth}
 use Rattle.sql_eval.specs.Truth.{denied, both, all_of, any_of, unless, value_of, truth_of}
 use Rattle.sql_eval.specs.Operators.{number_of, value_of_number, signed, sum_of, product_of, comparison, likeness, nullness}
+use Rattle.sql_eval.specs.Sides.{side_at}
 use Rattle.sql_eval.specs.Kinds.{own_step, wanted_beside}
 
 -- A value where a kind is wanted, or none: one of another kind is NULL there.
 abbrev pub if_wanted : Option Kind → value.Value → Option value.Value
 if_wanted None v = Some v
-if_wanted (Some k) v = if rank k == rank (kind_of v) then Some v else None
+if_wanted (Some k) v = if same_kind k (kind_of v) then Some v else None
 
 -- What a document gives for a name where a kind is wanted, or none.
 abbrev pub given : List ℕ → Option Kind → Fields → Option value.Value
@@ -32,10 +33,6 @@ given name want fields = option_and_then (if_wanted want) (value_at name fields)
 abbrev pub table_of : List (List ℕ) → Option (List ℕ) → Option ℕ
 table_of scope None = Some 0
 table_of scope (Some alias) = position_from (bytes_eq alias) 0 scope
-
--- The document on a side of a tuple, which may be missing.
-abbrev pub side_at : List (Option Fields) → ℕ → Option Fields
-side_at sides place = option_and_then (λ side. side) (slice_get sides place)
 
 -- What a reference gives where a kind is wanted, or none.
 abbrev pub read : List (List ℕ) → List (Option Fields) → Ref → Option Kind → Option value.Value

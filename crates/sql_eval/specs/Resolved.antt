@@ -11,10 +11,11 @@ use Rattle.sql_eval.specs.declared.expr.Expr.TheFolds.{fold-Expr, fold-Addend}
 use Rattle.sql_eval.specs.Truth.{denied, both, all_of, any_of, unless, value_of, truth_of}
 use Rattle.sql_eval.specs.Operators.{number_of, value_of_number, signed, sum_of, product_of, comparison, likeness, nullness}
 use Rattle.sql_eval.specs.Contents.{Cells}
+use Rattle.sql_eval.specs.Sides.{side_at}
 
 -- What a slot gives: the cell of its column on its table's side, and NULL where there is none.
 abbrev pub cell_at : List (Option Cells) → Slot → Option value.Value
-cell_at tuple slot = option_and_then (λ row. option_and_then (λ cell. cell) (slice_get row.cells slot.column)) (option_and_then (λ side. side) (slice_get tuple slot.table))
+cell_at tuple slot = option_and_then (λ row. option_and_then (λ cell. cell) (slice_get row.cells slot.column)) (side_at tuple slot.table)
 
 -- One level of an expression, its parts told by their values. Aggregates and ANY have no meaning here: NULL stands for it.
 abbrev pub value_step : List (Option Cells) → Expr-F (Option value.Value) (Option ℤ) → Option value.Value
@@ -43,7 +44,7 @@ value_step tuple (Expr-F.Aggregate call v) = None
 abbrev pub added_step : Addend-F (Option value.Value) (Option ℤ) → Option ℤ
 added_step a = signed a.minus (number_of a.expr)
 
--- What an expression means over a tuple of rows, of which one may be missing on each side.
+-- What an expression means over a tuple of rows, one for each table, any of which may be missing.
 abbrev pub value_over : List (Option Cells) → Expr → Option value.Value
 value_over tuple = fold-Expr (Option value.Value) (Option ℤ) (value_step tuple) added_step
 

@@ -15,7 +15,8 @@ use Rattle.sql_eval.specs.declared.addend.Addend.{Addend}
 use Rattle.sql_eval.specs.declared.expr.Expr.{Expr}
 use Rattle.sql_eval.specs.declared.expr.Expr.TheVariants as expr
 use Rattle.sql_eval.specs.Kinds.{own_kind, wanted_beside}
-use Rattle.sql_eval.specs.Meaning.{given, table_of, side_at, meaning}
+use Rattle.sql_eval.specs.Sides.{side_at}
+use Rattle.sql_eval.specs.Meaning.{given, table_of, meaning}
 use Rattle.sql_eval.specs.Contents.{Cells}
 use Rattle.sql_eval.specs.Resolved.{value_over}
 
@@ -75,10 +76,6 @@ mutual
     no_addends : AddendsResolve scope refs [] []
     more_addends : {taken : Bool} {t : Term} {e : Expr} {ts : List TermAddend} {es : List Addend} → Resolves scope refs (Some kind.Int) t e → AddendsResolve scope refs ts es → AddendsResolve scope refs (record { minus = taken; term = t } ∷ ts) (record { minus = taken; expr = e } ∷ es)
 
--- The row on a side of a tuple, which may be missing.
-abbrev pub row_at : List (Option Cells) → ℕ → Option Cells
-row_at tuple place = option_and_then (λ side. side) (slice_get tuple place)
-
 -- A row holds what its document gives for each column that is read, and is missing where the document is.
 abbrev pub IsRowOf : List ColRef → Option Fields → Option Cells → Type 0
 IsRowOf columns None None = Unit {0}
@@ -88,7 +85,7 @@ IsRowOf columns (Some doc) (Some row) = row.cells ≡ map (λ c. given c.name c.
 
 -- The rows of a tuple hold what the documents give for the columns of their tables.
 abbrev pub HoldsReferences : List (List ColRef) → List (Option Fields) → List (Option Cells) → Type 0
-HoldsReferences refs sides tuple = (place : ℕ) (columns : List ColRef) → slice_get refs place ≡ Some columns → IsRowOf columns (side_at sides place) (row_at tuple place)
+HoldsReferences refs sides tuple = (place : ℕ) (columns : List ColRef) → slice_get refs place ≡ Some columns → IsRowOf columns (side_at sides place) (side_at tuple place)
 
 -- An expression to which a term resolves means over rows what the term means over documents, where the rows hold what the documents give.
 abbrev pub KeepsMeaning : Type 0

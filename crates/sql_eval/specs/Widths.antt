@@ -81,7 +81,7 @@ are_narrow tables es = list_all (λ w. w.narrow) (map (width_of tables) es)
 abbrev pub addends_are_narrow : ℕ → List Addend → Bool
 addends_are_narrow tables members = list_all (λ w. w.narrow) (map (width_in tables) members)
 
--- One level of an expression: whether it, and each of its parts, is given by one tuple of rows alone.
+-- One level of an expression: whether neither it nor a part of it is an aggregate or an ANY.
 abbrev pub plain_step : Expr-F Bool Bool → Bool
 plain_step (Expr-F.Or es) = list_all (λ e. e) es
 plain_step (Expr-F.And es) = list_all (λ e. e) es

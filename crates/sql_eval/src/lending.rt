@@ -9,7 +9,7 @@ ghost use Rattle.sql_eval.specs.declared.value_ref.ValueRef as value_ref;
 use crate::addend::Addend;
 use crate::arithmetic::{negative, plus, times};
 use crate::expr::Expr;
-use crate::operators::{comparison, likeness};
+use crate::operators::{comparison, likeness, nullness};
 use crate::truth_value::Truth;
 use crate::tuple::Tuple;
 use crate::value_ref::ValueRef;
@@ -61,10 +61,7 @@ pub(crate) fn truth_over(expr: &Expr, tuple: &Tuple) -> Truth
         Expr::Compare { op, left, right } => {
             comparison(*op, value(left.get(), tuple), value(right.get(), tuple))
         }
-        Expr::IsNull { arg, negated } => {
-            let is_null = value(arg.get(), tuple).is_none();
-            Truth::of(Some(is_null != *negated))
-        }
+        Expr::IsNull { arg, negated } => nullness(value(arg.get(), tuple), *negated),
         Expr::Among {
             arg,
             members,

@@ -1,6 +1,7 @@
 ghost use Rattle.std.specs.Prelude.{◌≡◌, option_map};
 ghost use Rattle.doc_values.specs.Order.{compared};
-ghost use Rattle.sql_eval.specs.Operators.{comparison, likeness};
+ghost use Rattle.sql_eval.specs.Operators.{comparison, likeness, nullness};
+ghost use Rattle.sql_eval.specs.Truth.{truth_of};
 ghost use Rattle.sql_eval.specs.Resolved.{owned};
 
 use crate::pattern::like;
@@ -44,4 +45,11 @@ pub(crate) fn likeness(value: Option<ValueRef>, pattern: &str) -> Truth
         Some(ValueRef::Text(text)) => Truth::of(Some(like(text, pattern))),
         _ => Truth::Unknown,
     }
+}
+
+// IS NULL, or IS NOT NULL.
+pub(crate) fn nullness(value: Option<ValueRef>, negated: bool) -> Truth
+    ensures exact { result ≡ truth_of (nullness negated (option_map owned value.entry)) }
+{
+    Truth::of(Some(value.is_none() != negated))
 }

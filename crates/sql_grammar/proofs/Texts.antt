@@ -15,7 +15,7 @@ use Rattle.sql_tokens.specs.declared.token_sort.TokenSort.{TokenSort}
 use Rattle.sql_tokens.specs.declared.token_sort.TokenSort.TheVariants as sorts
 use Rattle.sql_tokens.specs.Forms.{is_space, is_word_byte, goes_on}
 use Rattle.sql_tokens.specs.Tokens as tokens
-use Rattle.sql_tokens.specs.Tokens.{most_bytes, IsSpace, BeginsOutside, written, Stands, HasFrom, AreTokens}
+use Rattle.sql_tokens.specs.Tokens.{most_statement_bytes, IsSpace, BeginsOutside, written, Stands, HasFrom, AreTokens}
 use Rattle.sql_tokens.specs.Scan.{tokens_of}
 use Rattle.sql_grammar.specs.declared.mark.Mark.{Mark}
 use Rattle.sql_grammar.specs.declared.mark.Mark.TheVariants as marks
@@ -54,7 +54,7 @@ select_word-no-load word h =
 
 -- ---- what is spelled is read
 
-load_is_read : (text collection json : List ℕ) → length text ≤ most_bytes → SpellsLoad text collection json → statement_of text ≡ Some (statement.Load collection json)
+load_is_read : (text collection json : List ℕ) → length text ≤ most_statement_bytes → SpellsLoad text collection json → statement_of text ≡ Some (statement.Load collection json)
 unfolding statement_of
 load_is_read text collection json fits spells =
     let behind : List ℕ = spells.between ++ (json ++ spells.after) in
@@ -68,7 +68,7 @@ load_is_read text collection json fits spells =
     let third : behind_word tail ≡ behind = behind_word-found spells.gap collection behind spells.spaces.1.0 name spells.longest in
     let fourth : trim behind ≡ json = trim-between spells.between json spells.after spells.spaces.2 spells.trimmed spells.spaces.3 in
     let is_load : is_keyword (codes "LOAD") (word_in text) ≡ true = ap (is_keyword (codes "LOAD")) first ∙ spells.is_load in
-    let short : not (nat_le (length text) most_bytes) ≡ false = ap not (le-leb (length text) most_bytes fits) in
+    let short : not (nat_le (length text) most_statement_bytes) ≡ false = ap not (le-leb (length text) most_statement_bytes fits) in
     let named : is_collection (word_in tail) ≡ true = ap is_collection second ∙ spells.names in
     let found : load_in tail ≡ Some (statement.Load collection json) = cond-true (is_collection (word_in tail)) _ _ named ∙ ap (λ name. Some (statement.Load name (trim (behind_word tail)))) second ∙ ap (λ bytes. Some (statement.Load collection (trim bytes))) third ∙ ap (λ bytes. Some (statement.Load collection bytes)) fourth in
     cond-false _ _ _ short ∙ cond-true _ _ _ is_load ∙ ap load_in rest ∙ found
@@ -235,7 +235,7 @@ module _ (told : (text : List ℕ) (tokens : List Token) → (tokens_of text ≡
       let e1 : tokens_of text ≡ Some tokens = (told text tokens).1 are in
       let e2 : whole (question_in (terminals_of text tokens)) ≡ Some select = question-again (terminals_of text tokens) select question in
       let no_load : is_keyword (codes "LOAD") (word_in text) ≡ false = select_word-no-load (word_in text) (begins-by text tokens are.all (question-led select (terminals_of text tokens) question)) in
-      let short : not (nat_le (length text) most_bytes) ≡ false = ap not (le-leb (length text) most_bytes are.fits) in
+      let short : not (nat_le (length text) most_statement_bytes) ≡ false = ap not (le-leb (length text) most_statement_bytes are.fits) in
       cond-false _ _ _ short ∙ cond-false _ _ _ no_load
       ∙ ap (λ o. option_and_then (λ tokens. option_map (λ select. statement.Select select) (whole (question_in (terminals_of text tokens)))) o) e1
       ∙ ap (λ o. option_map (λ select. statement.Select select) o) e2
@@ -251,12 +251,12 @@ module _ (told : (text : List ℕ) (tokens : List Token) → (tokens_of text ≡
     select-of None w f = absurd (none-some x f)
     select-of (Some select) w f = subst (Spells text) (same_Some (statement.Select select) x f) (s.question ((told text tokens).0 e) (question-found (terminals_of text tokens) select w))
 
-  load_read_is_spelled : (text : List ℕ) (x : Statement) → length text ≤ most_bytes → is_keyword (codes "LOAD") (word_in text) ≡ true → load_in (behind_word text) ≡ Some x → Spells text x
+  load_read_is_spelled : (text : List ℕ) (x : Statement) → length text ≤ most_statement_bytes → is_keyword (codes "LOAD") (word_in text) ≡ true → load_in (behind_word text) ≡ Some x → Spells text x
   load_read_is_spelled text x fits is_load h =
       let found = cond_some (is_collection (word_in (behind_word text))) _ x h in
       subst (Spells text) found.1 (s.load fits (load_is_spelled text is_load found.0))
 
-  read-by : (text : List ℕ) (fits is_load : Bool) (x : Statement) → nat_le (length text) most_bytes ≡ fits → is_keyword (codes "LOAD") (word_in text) ≡ is_load
+  read-by : (text : List ℕ) (fits is_load : Bool) (x : Statement) → nat_le (length text) most_statement_bytes ≡ fits → is_keyword (codes "LOAD") (word_in text) ≡ is_load
       → (if not fits then None else if is_load then load_in (behind_word text) else question_of text) ≡ Some x → Spells text x
   unfolding question_of
   read-by text false is_load x f l h = absurd (none-some x h)
@@ -265,7 +265,7 @@ module _ (told : (text : List ℕ) (tokens : List Token) → (tokens_of text ≡
 
   read_is_spelled : (text : List ℕ) (x : Statement) → statement_of text ≡ Some x → Spells text x
   unfolding statement_of
-  read_is_spelled text x h = read-by text (nat_le (length text) most_bytes) (is_keyword (codes "LOAD") (word_in text)) x refl refl h
+  read_is_spelled text x h = read-by text (nat_le (length text) most_statement_bytes) (is_keyword (codes "LOAD") (word_in text)) x refl refl h
 
   pub read_iff_spelled : (text : List ℕ) (x : Statement) → (statement_of text ≡ Some x) ↔ Spells text x
   read_iff_spelled text x = (read_is_spelled text x, spelled_is_read text x)

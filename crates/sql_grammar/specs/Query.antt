@@ -78,7 +78,7 @@ pub record Tail : Type 0 where
 pub data ATail : Tail → List Terminal → Type 0 where
   tail : {t : Option Term} {ks : Option (List Key)} {l : Option ℕ} {a b c : List Terminal} → Optional marks.Where Expression t a → Optional marks.Order Keys ks b → Optional marks.Limit Numeral l c → ATail (record { test = t; keys = ks; limit = l }) (a ++ (b ++ c))
 
--- A question of one table; it is for whole documents where it has no items.
+-- A question of one table, from its parts.
 abbrev pub question : Bool → Bool → List Item → Table → Tail → Select
 question is_star is_distinct items from ending = record { star = is_star; distinct = is_distinct; items = items; tables = from ∷ []; joins = []; test = ending.test; grouping = []; having = None; keys = keys_of ending.keys; limit = ending.limit }
 

@@ -5,7 +5,7 @@ use Rattle.sql_tree.specs.declared.statement.Statement.{Statement}
 use Rattle.sql_tree.specs.declared.statement.Statement.TheVariants as statement
 use Rattle.sql_tokens.specs.declared.token.Token.{Token}
 use Rattle.sql_tokens.specs.Forms.{is_space, is_word_byte, is_word}
-use Rattle.sql_tokens.specs.Tokens.{most_bytes, IsSpace, BeginsOutside, AreTokens}
+use Rattle.sql_tokens.specs.Tokens.{most_statement_bytes, IsSpace, BeginsOutside, AreTokens}
 use Rattle.sql_grammar.specs.Terminals.{is_keyword, is_alias}
 use Rattle.sql_grammar.specs.Words.{mark_of_word, terminals_of}
 use Rattle.sql_grammar.specs.Query.{Question}
@@ -38,5 +38,5 @@ pub record SpellsLoad (text collection json : List ℕ) : Type 0 where
 
 -- A text spells a statement: a load, or a question by its tokens.
 pub data Spells (text : List ℕ) : Statement → Type 0 where
-  load : {collection json : List ℕ} → length text ≤ most_bytes → SpellsLoad text collection json → Spells text (statement.Load collection json)
+  load : {collection json : List ℕ} → length text ≤ most_statement_bytes → SpellsLoad text collection json → Spells text (statement.Load collection json)
   question : {select : Select} {tokens : List Token} → AreTokens text tokens → Question select (terminals_of text tokens) → Spells text (statement.Select select)

@@ -3,7 +3,7 @@ use Rattle.std.specs.Prelude.{ℕ, List, not, nat_le, length, codes, Option, Som
 use Rattle.sql_tree.specs.declared.statement.Statement.{Statement}
 use Rattle.sql_tree.specs.declared.statement.Statement.TheVariants as statement
 use Rattle.sql_tokens.specs.Ends.{trim, word_in, behind_word}
-use Rattle.sql_tokens.specs.Tokens.{most_bytes}
+use Rattle.sql_tokens.specs.Tokens.{most_statement_bytes}
 use Rattle.sql_tokens.specs.Scan.{tokens_of}
 use Rattle.sql_grammar.specs.Terminals.{is_keyword}
 use Rattle.sql_grammar.specs.Words.{terminals_of}
@@ -21,6 +21,6 @@ question_of text = option_and_then (λ tokens. option_map (λ select. statement.
 -- The statement that a text spells, if it spells one.
 unfoldable pub statement_of : List ℕ → Option Statement
 statement_of text =
-    if not (nat_le (length text) most_bytes) then None
+    if not (nat_le (length text) most_statement_bytes) then None
     else if is_keyword (codes "LOAD") (word_in text) then load_in (behind_word text)
     else question_of text

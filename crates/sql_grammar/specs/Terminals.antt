@@ -2,6 +2,7 @@
 use Rattle.std.specs.Prelude.{ℕ, List, Bool, true, false, nat_le, length, codes, Option, Some, None, if◌then◌else◌}
 use Rattle.std.specs.Str.{str_eq_ignore_ascii_case}
 use denote.Enum.Bare.{sameb}
+use Rattle.sql_tokens.specs.Forms.{most_name_bytes}
 use Rattle.sql_grammar.specs.contracts.mark.Mark.{the_type}
 use Rattle.doc_values.specs.declared.kind.Kind.{Kind}
 use Rattle.doc_values.specs.declared.kind.Kind.TheVariants as kinds
@@ -10,19 +11,15 @@ use Rattle.doc_values.specs.declared.compare_op.CompareOp.TheVariants as ops
 use Rattle.sql_grammar.specs.declared.mark.Mark.{Mark}
 use Rattle.sql_grammar.specs.declared.mark.Mark.TheVariants as marks
 
--- The most bytes that a word may have as the name of a column.
-abbrev pub most_name_bytes : ℕ
-most_name_bytes = 255
-
 -- The most bytes that a word may have as a collection or an alias.
 abbrev pub most_alias_bytes : ℕ
 most_alias_bytes = 63
 
--- The word may name a column.
+-- The word is not too long for the name of a column.
 abbrev pub is_name : List ℕ → Bool
 is_name word = nat_le (length word) most_name_bytes
 
--- The word may name a collection or a table or an item.
+-- The word is not too long for a collection, or for the alias of a table or of an item.
 abbrev pub is_alias : List ℕ → Bool
 is_alias word = nat_le (length word) most_alias_bytes
 

@@ -4,7 +4,7 @@ use Rattle.std.specs.Prelude.{slice_range}
 use Rattle.std.proofs.lemmas.List.{take_at, drop_at}
 use Rattle.sql_tokens.specs.declared.token.Token.{Token}
 use Rattle.sql_tokens.specs.Forms.{IsToken, goes_on}
-use Rattle.sql_tokens.specs.Tokens.{most_bytes, IsSpace, BeginsOutside, written, Stands, HasFrom, none, next, AreTokens}
+use Rattle.sql_tokens.specs.Tokens.{most_statement_bytes, IsSpace, BeginsOutside, written, Stands, HasFrom, none, next, AreTokens}
 use Rattle.sql_grammar.specs.declared.terminal.Terminal.{Terminal}
 use Rattle.sql_grammar.specs.Words.{terminal_of, terminals_of}
 use Rattle.sql_syntax.specs.PrintingText.{terminal_text, spaced, text_printed}
@@ -84,5 +84,5 @@ text_rest quoting (t ∷ ts) f =
     }
 
 -- The tokens of what is printed stand for the terminals that are printed.
-pub text_tokens : Quoting → (ts : List Terminal) → Each IsWritable ts → length (text_printed ts) ≤ most_bytes → (tokens : List Token) × AreTokens (text_printed ts) tokens × (terminals_of (text_printed ts) tokens ≡ ts)
+pub text_tokens : Quoting → (ts : List Terminal) → Each IsWritable ts → length (text_printed ts) ≤ most_statement_bytes → (tokens : List Token) × AreTokens (text_printed ts) tokens × (terminals_of (text_printed ts) tokens ≡ ts)
 text_tokens quoting ts f fits = let rest = text_rest quoting ts f in (rest.tokens, record { fits = fits; all = rest.has }, rest.are)

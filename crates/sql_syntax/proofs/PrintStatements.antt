@@ -2,7 +2,7 @@
 use Rattle.std.proofs.Common.{ℕ, ◌≤◌, List, [], ◌∷◌, ◌++◌, length, refl, sym, subst, ap, append-nil, arith}
 use Rattle.std.specs.Prelude.{codes}
 use Rattle.sql_tree.specs.declared.statement.Statement.{Statement}
-use Rattle.sql_tokens.specs.Tokens.{most_bytes}
+use Rattle.sql_tokens.specs.Tokens.{most_statement_bytes}
 use Rattle.sql_grammar.specs.Words.{terminals_of}
 use Rattle.sql_grammar.specs.Query.{Question}
 use Rattle.sql_grammar.specs.Statement.{Spells, load, question, SpellsLoad}
@@ -41,7 +41,7 @@ load_again text collection (c ∷ cs) s = record {
 }
 
 -- What is printed of a statement that some text spells spells it, where it is not too long.
-pub statement_again : Quoting → (text : List ℕ) (s : Statement) → Spells text s → length (statement_printed s) ≤ most_bytes → Spells (statement_printed s) s
+pub statement_again : Quoting → (text : List ℕ) (s : Statement) → Spells text s → length (statement_printed s) ≤ most_statement_bytes → Spells (statement_printed s) s
 statement_again quoting text s (load {collection} {json} fits d) short = load short (load_again text collection json d)
 statement_again quoting text s (question {select} {tokens} are d) short =
     let again = question_again IsWritable writable_fitting select (terminals_of text tokens) d (tokens_writable quoting text 0 tokens are.all) in

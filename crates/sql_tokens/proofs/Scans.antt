@@ -9,7 +9,7 @@ use Rattle.std.proofs.lemmas.Option.{none-some, same_Some}
 use Rattle.sql_tokens.specs.declared.token.Token.{Token}
 use Rattle.sql_tokens.specs.declared.lexeme.Lexeme.{Lexeme}
 use Rattle.sql_tokens.specs.Forms.{is_space, IsToken, goes_on}
-use Rattle.sql_tokens.specs.Tokens.{most_bytes, IsSpace, BeginsOutside, written, Stands, HasFrom, none, next, AreTokens}
+use Rattle.sql_tokens.specs.Tokens.{most_statement_bytes, IsSpace, BeginsOutside, written, Stands, HasFrom, none, next, AreTokens}
 use Rattle.sql_tokens.specs.Scan.{lexeme, first_lexeme, token_at, scan, tokens_of}
 use Rattle.sql_tokens.proofs.Runs.{map_some}
 use Rattle.sql_tokens.proofs.Fronts.{found, Begins, begins}
@@ -180,13 +180,13 @@ sound text (c ∷ cs) zero at tokens here inside h =
 -- ---- the laws
 
 found_of : (text : List ℕ) (tokens : List Token) → AreTokens text tokens → tokens_of text ≡ Some tokens
-found_of text tokens are = cond-true (nat_le (length text) most_bytes) _ _ (le-leb _ _ are.fits) ∙ complete text 0 tokens are.all
+found_of text tokens are = cond-true (nat_le (length text) most_statement_bytes) _ _ (le-leb _ _ are.fits) ∙ complete text 0 tokens are.all
 
 stood_of : (text : List ℕ) (tokens : List Token) → tokens_of text ≡ Some tokens → AreTokens text tokens
 stood_of text tokens h =
-    elim (cases_Bool (nat_le (length text) most_bytes)) [
-      | inl fits ↦ record { fits = leb-true (length text) most_bytes fits; all = sound text text 0 0 tokens refl (omega arith) (sym (cond-true (nat_le (length text) most_bytes) _ _ fits) ∙ h) }
-      | inr long ↦ absurd (none-some tokens (sym (cond-false (nat_le (length text) most_bytes) _ _ long) ∙ h))
+    elim (cases_Bool (nat_le (length text) most_statement_bytes)) [
+      | inl fits ↦ record { fits = leb-true (length text) most_statement_bytes fits; all = sound text text 0 0 tokens refl (omega arith) (sym (cond-true (nat_le (length text) most_statement_bytes) _ _ fits) ∙ h) }
+      | inr long ↦ absurd (none-some tokens (sym (cond-false (nat_le (length text) most_statement_bytes) _ _ long) ∙ h))
     ]
 
 pub found_iff_are : (text : List ℕ) (tokens : List Token) → (tokens_of text ≡ Some tokens) ↔ AreTokens text tokens

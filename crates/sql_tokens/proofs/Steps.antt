@@ -10,7 +10,7 @@ use Rattle.std.proofs.lemmas.List.{append_assoc, append-nil, drop_more, drop_all
 use Rattle.sql_tokens.specs.declared.token.Token.{Token}
 use Rattle.sql_tokens.specs.declared.lexeme.Lexeme.{Lexeme}
 use Rattle.sql_tokens.specs.Forms.{is_space, is_quote, most_value}
-use Rattle.sql_tokens.specs.Tokens.{BeginsOutside, most_bytes}
+use Rattle.sql_tokens.specs.Tokens.{BeginsOutside, most_statement_bytes}
 use Rattle.sql_tokens.specs.Scan.{tokens_of, text_len, first_lexeme, token_at, scan}
 use Rattle.sql_tokens.proofs.Texts.{text_len-other, text_len-quotes, text_len-end}
 use Rattle.sql_tokens.proofs.Formed.{formed}
@@ -133,6 +133,6 @@ pub scan-stops_here : (bytes : List ℕ) (found : List Token) (at : ℕ) → at 
 scan-stops_here bytes found at inside no_space h = scan-stops bytes found at inside no_space (front-from bytes at None h)
 
 -- all of a text is read
-pub all-read : (text bytes : List ℕ) (found : List Token) (at : ℕ) → bytes ≡ text → length bytes ≤ most_bytes → length bytes ≤ at → scan_from bytes found at ≡ scan 0 0 bytes → tokens_of text ≡ Some found
+pub all-read : (text bytes : List ℕ) (found : List Token) (at : ℕ) → bytes ≡ text → length bytes ≤ most_statement_bytes → length bytes ≤ at → scan_from bytes found at ≡ scan 0 0 bytes → tokens_of text ≡ Some found
 all-read text bytes found at same fits past read =
-    ap tokens_of (sym same) ∙ cond-true (nat_le (length bytes) most_bytes) _ _ (le-leb _ _ fits) ∙ sym read ∙ scan-done bytes found at past
+    ap tokens_of (sym same) ∙ cond-true (nat_le (length bytes) most_statement_bytes) _ _ (le-leb _ _ fits) ∙ sym read ∙ scan-done bytes found at past

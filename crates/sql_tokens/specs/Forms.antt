@@ -41,16 +41,16 @@ is_double_quote c = c == 34
 abbrev pub is_dot : ℕ → Bool
 is_dot c = c == 46
 
--- A byte that may stand between two dots of a quoted name: no control character and no double quote.
+-- A byte that a segment of a quoted name may have: a space or a later one, and no double quote.
 abbrev pub is_segment_byte : ℕ → Bool
 is_segment_byte c = nat_le 32 c && not (is_double_quote c)
 
--- A segment of a quoted name: one such byte or more.
+-- A piece of a quoted name between its dots may be a segment: it is one such byte or more.
 abbrev pub is_segment : List ℕ → Bool
 is_segment [] = false
 is_segment (c ∷ cs) = is_segment_byte c && list_all is_segment_byte cs
 
--- The most bytes that a quoted name may have.
+-- The most bytes that a name may have.
 abbrev pub most_name_bytes : ℕ
 most_name_bytes = 255
 

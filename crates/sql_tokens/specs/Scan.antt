@@ -3,7 +3,7 @@ use Rattle.std.specs.Prelude.{ℕ, zero, suc, ◌+◌, ◌-◌, List, [], ◌∷
 use Rattle.std.specs.Char.{is_ascii_digit}
 use Rattle.std.specs.List.{prefix_len}
 use Rattle.sql_tokens.specs.Forms.{is_space, is_word_start, is_word_byte, is_numeral, is_double_quote, is_quoted_name, is_quote, is_sign, is_sign_pair}
-use Rattle.sql_tokens.specs.Tokens.{most_bytes}
+use Rattle.sql_tokens.specs.Tokens.{most_statement_bytes}
 use Rattle.sql_tokens.specs.declared.token_sort.TokenSort.{TokenSort}
 use Rattle.sql_tokens.specs.declared.token_sort.TokenSort.TheVariants.{Word, Quoted, Numeral, Text, Symbol}
 use Rattle.sql_tokens.specs.declared.token.Token.{Token}
@@ -64,4 +64,4 @@ scan zero at (c ∷ cs) =
 
 -- The tokens of a text, if it has any list of them.
 abbrev pub tokens_of : List ℕ → Option (List Token)
-tokens_of text = if nat_le (length text) most_bytes then scan 0 0 text else None
+tokens_of text = if nat_le (length text) most_statement_bytes then scan 0 0 text else None

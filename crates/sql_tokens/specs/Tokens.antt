@@ -5,8 +5,8 @@ use Rattle.sql_tokens.specs.Forms.{is_space, IsToken, goes_on}
 use Rattle.sql_tokens.specs.declared.token.Token.{Token}
 
 -- The most bytes that a text may have: 1 MiB.
-abbrev pub most_bytes : ℕ
-most_bytes = 1048576
+abbrev pub most_statement_bytes : ℕ
+most_statement_bytes = 1048576
 
 -- Every byte is white space.
 abbrev pub IsSpace : List ℕ → Type 0
@@ -34,5 +34,5 @@ pub data HasFrom (text : List ℕ) : ℕ → List Token → Type 0 where
 
 -- The tokens of a text that is not too long.
 pub record AreTokens (text : List ℕ) (tokens : List Token) : Type 0 where
-  pub fits : length text ≤ most_bytes
+  pub fits : length text ≤ most_statement_bytes
   pub all : HasFrom text 0 tokens

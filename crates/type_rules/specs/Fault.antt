@@ -8,7 +8,7 @@ use Rattle.type_rules.specs.Names.{names_hold}
 use Rattle.type_rules.specs.Kinds.{kinds_hold}
 use Rattle.type_rules.specs.Widths.{widths_hold}
 
--- The first rule that a question breaks: names, kinds, widths. The rule of groups stands between names and kinds, and holds of each question that groups nothing.
+-- The first rule that a question breaks: names, kinds, widths. The rule of groups has its place between names and kinds; no text spells a group or an aggregate yet.
 abbrev pub question_fault : Select → Option TypeFault
 question_fault s = if names_hold s then (if kinds_hold s then (if widths_hold s then None else Some Wide) else Some Kind) else Some Name
 

@@ -3,7 +3,7 @@ use Rattle.std.specs.Prelude.{Bool, true, ◌&&◌, ◌==◌, List, Option, Some
 use Rattle.std.specs.List.{list_all}
 use Rattle.doc_values.specs.declared.kind.Kind.{Kind}
 use Rattle.doc_values.specs.declared.kind.Kind.TheVariants as kind
-use Rattle.doc_values.specs.Order.{rank}
+use Rattle.doc_values.specs.Order.{same_kind}
 use Rattle.sql_tree.specs.declared.agg_call.AggCall.TheVariants as agg_call
 use Rattle.sql_tree.specs.declared.addend.Addend.{Addend}
 use Rattle.sql_tree.specs.declared.select.Select.{Select}
@@ -15,7 +15,7 @@ use Rattle.type_rules.specs.Places.{places_of}
 
 -- Two kinds are not different; where one is missing they never are.
 abbrev pub agree : Option Kind → Option Kind → Bool
-agree (Some k) (Some j) = rank k == rank j
+agree (Some k) (Some j) = same_kind k j
 agree _ _ = true
 
 -- A part of a term, to the term around it: its own kind, and whether it and its parts keep the rule where a kind is wanted of it, or none.

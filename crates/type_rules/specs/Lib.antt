@@ -9,3 +9,4 @@ pub mod Fault
 pub mod Runnable
 pub mod Plan
 pub mod Steps
+pub mod Shapes

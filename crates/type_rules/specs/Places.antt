@@ -73,6 +73,6 @@ item_terms s = map (λ i. i.expr) s.items
 abbrev pub key_terms : Select → List Term
 key_terms s = map (key_term s.items) s.keys
 
--- All terms of a question, in the order of the text.
+-- The terms of the items, of the condition and of the keys of a question, in this order.
 abbrev pub places_of : Select → List Place
 places_of s = (map free (item_terms s) ++ condition s.test) ++ map free (key_terms s)

@@ -36,13 +36,13 @@ every_slot test = fold-Expr Bool Bool (slots_step test) (λ a. a.expr)
 abbrev pub is_column : List (List ColRef) → Slot → Bool
 is_column refs slot = is_some (option_and_then (λ columns. slice_get columns slot.column) (slice_get refs slot.table))
 
--- An expression is computed from one row of each table: it has no aggregate and no ANY, no number in it needs more than 126 bits, and it reads columns alone that are read of the tables.
+-- What is needed to compute an expression from one row of each table: it has no aggregate and no ANY, no number in it needs more than 126 bits, and it reads columns alone that are read of the tables.
 pub record IsComputed (refs : List (List ColRef)) (e : Expr) : Type 0 where
   pub plain : is_plain e ≡ true
   pub narrow : (width_of (length refs) e).narrow ≡ true
   pub slots : every_slot (is_column refs) e ≡ true
 
--- A plan can be run: it lists columns for each table, and each of its expressions is computed from them.
+-- A plan can be run: it lists columns for each table, and each of its expressions can be computed from them.
 pub record CanBeRun (p : SelectPlan) : Type 0 where
   pub refs : length p.refs ≡ length p.from.tables
   pub test : IfSome p.test (IsComputed p.refs)

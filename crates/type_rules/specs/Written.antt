@@ -41,7 +41,7 @@ is_written = fold-Term Bool Bool written_step (λ a. a.term)
 abbrev pub is_written_in : Addend → Bool
 is_written_in = fold-Addend Bool Bool written_step (λ a. a.term)
 
--- A question that a text spells: one table, which nothing joins or groups, and terms that are written.
+-- What each question that a text spells has: one table, which nothing joins or groups, and terms that are written.
 pub record IsQuestion (s : Select) : Type 0 where
   pub table : Table
   pub tables : s.tables ≡ table ∷ []
@@ -50,7 +50,7 @@ pub record IsQuestion (s : Select) : Type 0 where
   pub having : s.having ≡ None
   pub terms : list_all (λ p. is_written p.term) (places_of s) ≡ true
 
--- A statement that a text spells. Updates and deletions are not written yet.
+-- What each statement that a text spells has. Updates and deletions are not written yet.
 abbrev pub IsWritten : statement.Statement → Type 0
 IsWritten (statement.TheVariants.Load collection json) = Unit {0}
 IsWritten (statement.TheVariants.Select s) = IsQuestion s

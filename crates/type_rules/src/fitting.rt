@@ -1,5 +1,7 @@
-ghost use Rattle.std.specs.Prelude.{◌≡◌, ◌&&◌, map, Some};
+ghost use Rattle.std.specs.Prelude.{◌≡◌, ◌&&◌, map, Some, None};
 ghost use Rattle.std.specs.List.{list_all};
+ghost use Rattle.doc_values.specs.declared.kind.Kind.TheVariants as kind;
+ghost use Rattle.sql_tree.specs.declared.agg_call.AggCall.TheVariants as agg_call;
 ghost use Rattle.type_rules.specs.Kinds.{agree, all_fit, side_fits, fits, fitting_of, addend_fits};
 
 use crate::own_kinds::{agree, own_kind, wanted_beside};
@@ -45,11 +47,21 @@ pub(crate) fn fits(term: &Term, want: Option<Kind>) -> bool
         Term::Sum(members) => addends_fit(members.as_slice()),
         Term::Product(members) => all_fit(members.as_slice(), Kind::Int),
         Term::Minus(arg) => fits(arg.get(), Some(Kind::Int)),
-        Term::Aggregate { call, arg } => match call {
-            AggCall::Count => fits(arg.get(), None),
-            AggCall::Sum => fits(arg.get(), Some(Kind::Int)),
-            AggCall::Min | AggCall::Max => fits(arg.get(), want),
-        },
+        Term::Aggregate { call, arg } => fits(arg.get(), wanted_by(*call, want)),
+    }
+}
+
+// The kind that an aggregate wants of its argument, from the one that is wanted of the aggregate.
+fn wanted_by(call: AggCall, want: Option<Kind>) -> Option<Kind>
+    ensures count { call ≡ agg_call.Count → result ≡ None }
+    ensures sum { call ≡ agg_call.Sum → result ≡ Some kind.Int }
+    ensures least { call ≡ agg_call.Min → result ≡ want }
+    ensures greatest { call ≡ agg_call.Max → result ≡ want }
+{
+    match call {
+        AggCall::Count => None,
+        AggCall::Sum => Some(Kind::Int),
+        AggCall::Min | AggCall::Max => want,
     }
 }
 

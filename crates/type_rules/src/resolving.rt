@@ -7,7 +7,8 @@ ghost use Rattle.sql_eval.specs.Kinds.{own_kind};
 ghost use Rattle.sql_eval.specs.Resolves.{beside};
 ghost use Rattle.type_rules.specs.Written.{is_written, is_written_in};
 ghost use Rattle.type_rules.specs.Uses.{reader_of, addend_uses, all_uses, uses_beside};
-ghost use Rattle.type_rules.specs.Steps.{IsResolved, AreResolved, AddendsAreResolved, has_numerals, has_numerals_in, is_test, is_among, is_between, denied_expr};
+ghost use Rattle.type_rules.specs.Shapes.{is_test, is_among, is_between};
+ghost use Rattle.type_rules.specs.Steps.{IsResolved, AreResolved, AddendsAreResolved, has_numerals, has_numerals_in, denied_expr};
 
 use crate::columns::Columns;
 use crate::own_kinds::{own_kind, wanted_beside};

@@ -2,7 +2,8 @@ use Rattle.std.proofs.Common.{◌≡◌, Err, sym, ap, ◌∙◌, ◌≤◌}
 use Rattle.std.proofs.lemmas.Result.{err_from_is_err_and}
 use Rattle.doc_values.specs.Doc.{Fields}
 use Rattle.doc_values.specs.Weight.{weight_of}
-use Rattle.commit_core.specs.State.{most_pairs, most_weight}
+use Rattle.attr_catalog.specs.Catalog.{most_attributes}
+use Rattle.commit_core.specs.State.{most_weight}
 use Rattle.commit_core.specs.StoredDocument.{pairs_of}
 use Rattle.commit_core.specs.declared.load_refusal.LoadRefusal.TheVariants.{Full}
 use Rattle.commit_core.proofs.Pairs.{grown_twice}
@@ -33,5 +34,5 @@ pub returns-in_err-append-clause-full : goal.returns-in_err-append-clause-full
 returns-in_err-append-clause-full c = λ e.
     let p = err_from_is_err_and c.from_residual.result c.from_residual.ensures.1 in
     let same : p.0 ≡ Full = cc in
-    too_many_documents (pairs_of c.args.catalog.now) (pairs_of c.loop-place.catalog) c.args.documents.now c.loop-place.place most_pairs c.get.result.now c.get.ensures.exact c.loop-place.invariant.pairs
+    too_many_documents (pairs_of c.args.catalog.now) (pairs_of c.loop-place.catalog) c.args.documents.now c.loop-place.place most_attributes c.get.result.now c.get.ensures.exact c.loop-place.invariant.pairs
     (c.in_err-append.ensures.full (ap Err (sym p.2 ∙ same)))

@@ -1,7 +1,7 @@
 use Rattle.std.proofs.Common.{◌≡◌, Err, refl, ◌∙◌, sym, ap}
 use Rattle.std.proofs.lemmas.Result.{err_from_is_err_and}
 use Rattle.commit_core.specs.declared.load_refusal.LoadRefusal.TheVariants.{Full}
-use Rattle.commit_core.specs.State.{most_pairs}
+use Rattle.attr_catalog.specs.Catalog.{most_attributes}
 use Rattle.commit_core.specs.StoredDocument.{pairs_of}
 use Rattle.commit_core.proofs.Pairs.{grown_itself, grown_twice}
 use Rattle.commit_core.proofs.Entries.{entries_more, pairs_more, too_many}
@@ -35,5 +35,5 @@ pub returns-in_err-id-clause-full : goal.returns-in_err-id-clause-full
 returns-in_err-id-clause-full c = λ e.
     let p = err_from_is_err_and c.from_residual.result c.from_residual.ensures.1 in
     let same : p.0 ≡ Full = cc in
-    too_many (pairs_of c.args.catalog.now) (pairs_of c.loop-place.catalog) c.args.document.now c.loop-place.place most_pairs c.field.result.0.now c.field.result.1.now c.kind_stored.result c.field.ensures.exact c.kind_stored.ensures.exact
+    too_many (pairs_of c.args.catalog.now) (pairs_of c.loop-place.catalog) c.args.document.now c.loop-place.place most_attributes c.field.result.0.now c.field.result.1.now c.kind_stored.result c.field.ensures.exact c.kind_stored.ensures.exact
     c.loop-place.invariant.pairs (c.in_err-id.ensures.full (ap Err (sym p.2 ∙ same)))

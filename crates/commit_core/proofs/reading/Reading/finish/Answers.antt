@@ -1,7 +1,7 @@
 use Rattle.std.proofs.Common.{◌∙◌, List, ℕ, option_map, Vec, Global, sym, ap, map, take, false}
 use Rattle.std.proofs.lemmas.Option.{same_Some}
 use Rattle.sql_eval.specs.declared.row.Row.{Row}
-use Rattle.commit_core.specs.Agreement.{cells_of}
+use Rattle.query_meaning.specs.Plans.{rows_read}
 use Rattle.commit_core.specs.Plan.{plan_of}
 use Rattle.commit_core.specs.Query.{documents_asked}
 use Rattle.commit_core.specs.Replies.{state_after}
@@ -25,6 +25,6 @@ returns-clause-exact c =
     (λ question documents planned read_rows.
     let asked = c.self.invariant.0 in
     let text = c.self.inside.text in
-    let found = same_Some c.in-Some.rows.items (map (cells_of question) documents) (sym (ap (option_map (λ (v : Vec Row Global). v.items)) c.in-Some.is) ∙ read_rows) in
+    let found = same_Some c.in-Some.rows.items (rows_read question documents) (sym (ap (option_map (λ (v : Vec Row Global). v.items)) c.in-Some.is) ∙ read_rows) in
     ap (λ (body : List ℕ). record { at = c.self.inside.at; accepted = false; body = body })
     (answered_alike text asked.question question c.in-Some.rows.items documents c.in_ok-body.body asked.planned planned found (λ ds e. c.in_ok-body.ensures.ok (plan_of text) asked ds e)))

@@ -1,0 +1,2 @@
+pub mod PlansAnswer
+pub mod PlansRun

@@ -1,0 +1,5 @@
+use Rattle.query_meaning.proofs.PlansAnswer.{answered}
+use Rattle.query_meaning.proofs.plan_laws.plans_keep_meaning.Goals as goal
+
+pub returns : goal.returns
+returns c = record { law = λ question plan is documents. answered c.resolving_keeps_meaning.ensures.kept question plan is documents }

@@ -1,0 +1,26 @@
+ghost use Rattle.std.specs.Prelude.{◌≡◌, All, List};
+ghost use Rattle.doc_values.specs.Doc.{Fields};
+ghost use Rattle.sql_tree.specs.declared.select.Select.{Select};
+ghost use Rattle.sql_eval.specs.Contents.{Cells};
+ghost use Rattle.sql_eval.specs.declared.select_plan.SelectPlan.{SelectPlan};
+ghost use Rattle.type_rules.specs.Plan.{IsPlanOf};
+ghost use Rattle.type_rules.specs.Runnable.{CanBeRun};
+ghost use Rattle.query_meaning.specs.Question.{answer_among};
+ghost use Rattle.query_meaning.specs.Plans.{rows_read, answer_of_plan};
+ghost use Rattle.query_meaning.specs.Runs.{IsStorableRow, CanRunOver};
+
+use sql_eval::resolving_keeps_meaning;
+
+/// Law: a plan of a question answers, over the rows that are read of documents, what the question means over the documents.
+pub fn plans_keep_meaning()
+    ensures law { (question : Select) (plan : SelectPlan) → IsPlanOf question plan → (documents : List Fields)
+        → answer_of_plan plan (rows_read question documents) ≡ answer_among question documents }
+{
+    resolving_keeps_meaning();
+}
+
+/// Law: a plan of a question that can be run can be run over each list of rows whose numbers are those of documents.
+pub fn plans_can_be_run()
+    ensures law { (question : Select) (plan : SelectPlan) → IsPlanOf question plan → CanBeRun plan → (rows : List Cells) → All IsStorableRow rows
+        → CanRunOver plan rows }
+{}
