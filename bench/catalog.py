@@ -5,14 +5,11 @@
 
 Names of one kind each, names of all five kinds, and long names with one prefix. The texts are made when this runs.
 """
-import os
 import random
-import subprocess
 import sys
 
-TOP = os.path.dirname(os.path.dirname(os.path.abspath(__file__)))
-FOLDER = os.path.join(TOP, "crates", "catalog_bench")
-PROGRAM = os.path.join(FOLDER, "out", "catalog_bench")
+from common import heading, lines_told
+
 ASKED = 1000000
 KINDS = ("bool", "int", "text", "array", "object")
 
@@ -30,20 +27,13 @@ def long_names(count):
 
 
 def main():
-    if not os.path.exists(PROGRAM):
-        subprocess.run(["rt", "run"], cwd=FOLDER, stdin=subprocess.DEVNULL, stdout=subprocess.DEVNULL,
-                       stderr=subprocess.DEVNULL, check=False)
-    if not os.path.exists(PROGRAM):
-        sys.exit("no program: run `rt run` in crates/catalog_bench and read what it says")
     random.seed(7)
     cases = [("one kind a name", one_kind(n)) for n in (1024, 8192, 65536)]
     cases += [("five kinds a name", all_kinds(65536)), ("names of 245 bytes, one prefix", long_names(65536))]
-    print("| names | attributes | add, ns | find, ns | kinds_of, ns |")
-    print("|---|---|---|---|---|")
+    heading("names", "attributes", "add, ns", "find, ns", "kinds_of, ns")
     for name, pairs in cases:
         text = "\n".join(pairs) + "\n\n" + "\n".join(random.choices(pairs, k=ASKED)) + "\n"
-        done = subprocess.run([PROGRAM], input=text.encode(), stdout=subprocess.PIPE, check=True)
-        add, find, kinds, found = (int(word) for word in done.stdout.split())
+        add, find, kinds, found = (int(word) for word in lines_told("catalog_bench", text)[0])
         if found != ASKED:
             sys.exit("of %d pairs %d were found" % (ASKED, found))
         each = (add * 1000 / len(pairs), find * 1000 / ASKED, kinds * 1000 / ASKED)

@@ -5,13 +5,7 @@
 
 Three shapes: wide documents, deep ones, and arrays of documents. The texts are made when this runs.
 """
-import os
-import subprocess
-import sys
-
-TOP = os.path.dirname(os.path.dirname(os.path.abspath(__file__)))
-FOLDER = os.path.join(TOP, "crates", "flatten_bench")
-PROGRAM = os.path.join(FOLDER, "out", "flatten_bench")
+from common import heading, lines_told
 
 
 def wide(fields):
@@ -34,20 +28,13 @@ def many(documents):
 
 
 def main():
-    if not os.path.exists(PROGRAM):
-        subprocess.run(["rt", "run"], cwd=FOLDER, stdin=subprocess.DEVNULL, stdout=subprocess.DEVNULL,
-                       stderr=subprocess.DEVNULL, check=False)
-    if not os.path.exists(PROGRAM):
-        sys.exit("no program: run `rt run` in crates/flatten_bench and read what it says")
     cases = [("wide: %d fields" % n, wide(n)) for n in (1024, 2048, 4096)]
     cases += [("wide: 100 documents of %d fields" % n, "[" + ",".join([wide(n)] * 100) + "]") for n in (512, 1024)]
     cases += [("deep: %d levels, 1,000 documents" % n, "[" + ",".join([deep(n, 8)] * 1000) + "]") for n in (15, 30, 60)]
     cases += [("array of %d documents" % n, many(n)) for n in (10000, 20000, 40000)]
-    print("| text | bytes | bare read, ms | read as documents, ms | ratio |")
-    print("|---|---|---|---|---|")
+    heading("text", "bytes", "bare read, ms", "read as documents, ms", "ratio")
     for name, text in cases:
-        done = subprocess.run([PROGRAM], input=text.encode(), stdout=subprocess.PIPE, check=True)
-        bare, whole = (int(word) for word in done.stdout.split())
+        bare, whole = (int(word) for word in lines_told("flatten_bench", text)[0])
         print("| %s | %d | %.2f | %.2f | %.2f |" % (name, len(text), bare / 1000, whole / 1000, whole / bare), flush=True)
 
 

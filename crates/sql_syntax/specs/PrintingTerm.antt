@@ -1,5 +1,5 @@
 -- The terminals that are printed of a term, as a fold.
-use Rattle.std.specs.Prelude.{List, [], ◌∷◌, ◌++◌, map}
+use Rattle.std.specs.Prelude.{List, [], ◌∷◌, ◌++◌, map, Bool, true, false}
 use Rattle.sql_tree.specs.declared.agg_call.AggCall.TheVariants as calls
 use Rattle.sql_tree.specs.declared.addend.Addend.{Addend}
 use Rattle.sql_tree.specs.declared.term.Term.{Term, fold-Term}
@@ -49,3 +49,14 @@ at_places asked ts = map (λ t. printed t asked) ts
 -- A member of a sum with what is printed of its term.
 abbrev pub member_printed : Addend → PrintedAddend
 member_printed m = (m.minus, printed m.term)
+
+-- One level of a term: whether it is IN, BETWEEN or LIKE.
+abbrev pub in_between_or_like_step : Term-F Bool (Unit {0}) → Bool
+in_between_or_like_step (Term-F.Among t ts negated) = true
+in_between_or_like_step (Term-F.Between t low high negated) = true
+in_between_or_like_step (Term-F.Like t pattern negated) = true
+in_between_or_like_step _ = false
+
+-- A term is IN, BETWEEN or LIKE.
+abbrev pub is_in_between_or_like : Term → Bool
+is_in_between_or_like = fold-Term Bool (Unit {0}) in_between_or_like_step (λ _. tt)

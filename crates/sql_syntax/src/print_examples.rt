@@ -1,135 +1,251 @@
-use crate::print_queries::write_expression;
-use doc_values::{CompareOp, Utf};
-use sql_tree::{Addend, Ref, Term};
-use sqlite_items::{Boxed, Items};
+use crate::{ParseFault, parse, print};
 use std::alloc::{AllocError, Global};
+use std::process::Abort;
 use std::test::Fail;
 
-fn column(alloc: Global, name: &str) -> Result<Term, AllocError> {
-    Ok(Term::Column(Ref {
-        qualifier: None,
-        name: Utf::of(alloc, name)?,
-    }))
-}
+// Questions as a whole.
+const QUESTIONS: [(&str, &str); 17] = [
+    ("SELECT * FROM t u", "SELECT * FROM t AS u"),
+    (
+        "select * from t as u where u.a = 1 order by u.a desc, b asc limit 007",
+        "SELECT * FROM t AS u WHERE u . \"a\" = 1 ORDER BY u . \"a\" DESC , \"b\" LIMIT 7",
+    ),
+    (
+        "SELECT * FROM t ORDER BY a, b DESC, c ASC, d",
+        "SELECT * FROM t ORDER BY \"a\" , \"b\" DESC , \"c\" , \"d\"",
+    ),
+    (
+        "SELECT DISTINCT a, b FROM t",
+        "SELECT DISTINCT \"a\" , \"b\" FROM t",
+    ),
+    (
+        "SELECT a x, b AS y, c FROM t AS u",
+        "SELECT \"a\" AS x , \"b\" AS y , \"c\" FROM t AS u",
+    ),
+    (
+        "SELECT a FROM t WHERE b ORDER BY c LIMIT 0",
+        "SELECT \"a\" FROM t WHERE \"b\" ORDER BY \"c\" LIMIT 0",
+    ),
+    (
+        "SELECT a FROM t ORDER BY NOT a, b OR c DESC, a IN (1) ASC",
+        "SELECT \"a\" FROM t ORDER BY NOT \"a\" , \"b\" OR \"c\" DESC , \"a\" IN ( 1 )",
+    ),
+    (
+        "SELECT 1 AS q FROM t ORDER BY q, (q), \"q\"",
+        "SELECT 1 AS q FROM t ORDER BY \"q\" , \"q\" , \"q\"",
+    ),
+    (
+        "SELECT a FROM t LIMIT 9223372036854775808",
+        "SELECT \"a\" FROM t LIMIT 9223372036854775808",
+    ),
+    ("SELECT a FROM t LIMIT 9223372036854775809", "! syntax"),
+    ("SELECT a FROM t LIMIT (1)", "! syntax"),
+    ("SELECT a FROM t ORDER BY (1)", "! syntax"),
+    ("SELECT a, * FROM t", "! syntax"),
+    ("SELECT a FROM t, u", "! syntax"),
+    ("SELECT a FROM t GROUP BY a", "! syntax"),
+    ("SELECT a FROM", "! syntax"),
+    ("DELETE FROM t", "! syntax"),
+];
 
-fn two(alloc: Global, first: Term, second: Term) -> Result<Items<Term>, AllocError> {
-    let mut terms = Items::new(alloc);
-    terms.push(first)?;
-    terms.push(second)?;
-    Ok(terms)
-}
+// Leaves of expressions, and the tokens of names, numerals and texts.
+const LEAVES: [(&str, &str); 13] = [
+    (
+        "SELECT 1, 'x', TRUE, false, Null, a, \"b.c\", t.d, t.\"e.f\" FROM t",
+        "SELECT 1 , 'x' , TRUE , FALSE , NULL , \"a\" , \"b.c\" , t . \"d\" , t . \"e.f\" FROM t",
+    ),
+    (
+        "SELECT INT(a), Text(a), BOOL ( \"b\" ), array(t.c) FROM t",
+        "SELECT INT ( \"a\" ) , TEXT ( \"a\" ) , BOOL ( \"b\" ) , ARRAY ( t . \"c\" ) FROM t",
+    ),
+    (
+        "SELECT '', '''', 'it''s', '\"', '\\', 'a''''b', ';' FROM t",
+        "SELECT '' , '''' , 'it''s' , '\"' , '\\' , 'a''''b' , ';' FROM t",
+    ),
+    (
+        "SELECT \" \" , \" . \" FROM t",
+        "SELECT \" \" , \" . \" FROM t",
+    ),
+    (
+        "SELECT\"a\"FROM t WHERE'x'=s AND(b)OR\t-1<c",
+        "SELECT \"a\" FROM t WHERE 'x' = \"s\" AND \"b\" OR - 1 < \"c\"",
+    ),
+    (
+        "SELECT load, update, DELETE, atomic, search FROM load AS delete",
+        "SELECT \"load\" , \"update\" , \"DELETE\" , \"atomic\" , \"search\" FROM load AS delete",
+    ),
+    ("SELECT \"SELECT\" FROM t", "SELECT \"SELECT\" FROM t"),
+    ("SELECT a AS Select FROM t", "! syntax"),
+    ("SELECT COUNT(*) FROM t", "! syntax"),
+    ("SELECT INT((a)) FROM t", "! syntax"),
+    ("SELECT \"a..b\" FROM t", "! syntax"),
+    ("SELECT ''' FROM t", "! syntax"),
+    ("SELECT 1AS x FROM t", "! syntax"),
+];
 
-fn or(alloc: Global, first: Term, second: Term) -> Result<Term, AllocError> {
-    Ok(Term::Or(two(alloc, first, second)?))
-}
+// Comparisons and tests.
+const TESTS: [(&str, &str); 17] = [
+    (
+        "SELECT a=b, a<>b, a!=b, a<b, a<=b, a>b, a>=b FROM t",
+        "SELECT \"a\" = \"b\" , \"a\" <> \"b\" , \"a\" <> \"b\" , \"a\" < \"b\" , \"a\" <= \"b\" , \"a\" > \"b\" , \"a\" >= \"b\" FROM t",
+    ),
+    (
+        "SELECT a is null, a Is Not Null FROM t",
+        "SELECT \"a\" IS NULL , \"a\" IS NOT NULL FROM t",
+    ),
+    (
+        "SELECT a in (1), a not in (1, 'x', NULL) FROM t",
+        "SELECT \"a\" IN ( 1 ) , \"a\" NOT IN ( 1 , 'x' , NULL ) FROM t",
+    ),
+    (
+        "SELECT a between 1 and 2, a not between b and c FROM t",
+        "SELECT \"a\" BETWEEN 1 AND 2 , \"a\" NOT BETWEEN \"b\" AND \"c\" FROM t",
+    ),
+    (
+        "SELECT a like 'x%', a not like '_' FROM t",
+        "SELECT \"a\" LIKE 'x%' , \"a\" NOT LIKE '_' FROM t",
+    ),
+    (
+        "SELECT NOT a IN (b), (NOT a) IN (NOT b), NOT a NOT IN (1) FROM t",
+        "SELECT NOT \"a\" IN ( \"b\" ) , ( NOT \"a\" ) IN ( NOT \"b\" ) , NOT \"a\" NOT IN ( 1 ) FROM t",
+    ),
+    (
+        "SELECT (a = b) <> c, a = (b < c), (a = b) = (c = d) FROM t",
+        "SELECT ( \"a\" = \"b\" ) <> \"c\" , \"a\" = ( \"b\" < \"c\" ) , ( \"a\" = \"b\" ) = ( \"c\" = \"d\" ) FROM t",
+    ),
+    (
+        "SELECT (a OR b) = c, a = (b AND c) FROM t",
+        "SELECT ( \"a\" OR \"b\" ) = \"c\" , \"a\" = ( \"b\" AND \"c\" ) FROM t",
+    ),
+    (
+        "SELECT (a IS NULL) IS NOT NULL, (a IN (1)) IS NULL, (a BETWEEN 1 AND 2) IS NULL, (a LIKE '') IS NULL FROM t",
+        "SELECT ( \"a\" IS NULL ) IS NOT NULL , ( \"a\" IN ( 1 ) ) IS NULL , ( \"a\" BETWEEN 1 AND 2 ) IS NULL , ( \"a\" LIKE '' ) IS NULL FROM t",
+    ),
+    (
+        "SELECT a IN (b OR c, d AND e, (f)), (a OR b) IN (c), a OR b IN (c) FROM t",
+        "SELECT \"a\" IN ( \"b\" OR \"c\" , \"d\" AND \"e\" , \"f\" ) , ( \"a\" OR \"b\" ) IN ( \"c\" ) , \"a\" OR \"b\" IN ( \"c\" ) FROM t",
+    ),
+    (
+        "SELECT a BETWEEN b AND c AND d, a AND b BETWEEN c AND d AND e, (a AND b) BETWEEN c AND d FROM t",
+        "SELECT \"a\" BETWEEN \"b\" AND \"c\" AND \"d\" , \"a\" AND \"b\" BETWEEN \"c\" AND \"d\" AND \"e\" , ( \"a\" AND \"b\" ) BETWEEN \"c\" AND \"d\" FROM t",
+    ),
+    (
+        "SELECT a BETWEEN (b AND c) AND d, a BETWEEN b AND (c OR d), a BETWEEN b AND c OR d FROM t",
+        "SELECT \"a\" BETWEEN ( \"b\" AND \"c\" ) AND \"d\" , \"a\" BETWEEN \"b\" AND ( \"c\" OR \"d\" ) , \"a\" BETWEEN \"b\" AND \"c\" OR \"d\" FROM t",
+    ),
+    (
+        "SELECT a OR b LIKE 'x' AND c, (a OR b) LIKE 'x', (a AND b) LIKE 'x' FROM t",
+        "SELECT \"a\" OR \"b\" LIKE 'x' AND \"c\" , ( \"a\" OR \"b\" ) LIKE 'x' , ( \"a\" AND \"b\" ) LIKE 'x' FROM t",
+    ),
+    ("SELECT a = b = c FROM t", "! syntax"),
+    ("SELECT a IS NULL IS NULL FROM t", "! syntax"),
+    ("SELECT a LIKE b FROM t", "! syntax"),
+    ("SELECT a = NOT b FROM t", "! syntax"),
+];
 
-fn and(alloc: Global, first: Term, second: Term) -> Result<Term, AllocError> {
-    Ok(Term::And(two(alloc, first, second)?))
-}
+// OR, AND, NOT and the operations on numbers, one in another.
+const OPERATORS: [(&str, &str); 15] = [
+    (
+        "SELECT a OR b OR c, (a OR b) OR c, a OR (b OR c) FROM t",
+        "SELECT \"a\" OR \"b\" OR \"c\" , ( \"a\" OR \"b\" ) OR \"c\" , \"a\" OR ( \"b\" OR \"c\" ) FROM t",
+    ),
+    (
+        "SELECT a AND b AND c, (a AND b) AND c, a AND (b AND c) FROM t",
+        "SELECT \"a\" AND \"b\" AND \"c\" , ( \"a\" AND \"b\" ) AND \"c\" , \"a\" AND ( \"b\" AND \"c\" ) FROM t",
+    ),
+    (
+        "SELECT a OR b AND c, a AND b OR c, (a AND b) OR (c AND d) FROM t",
+        "SELECT \"a\" OR \"b\" AND \"c\" , \"a\" AND \"b\" OR \"c\" , \"a\" AND \"b\" OR \"c\" AND \"d\" FROM t",
+    ),
+    (
+        "SELECT (a OR b) AND c, a AND (b OR c) FROM t",
+        "SELECT ( \"a\" OR \"b\" ) AND \"c\" , \"a\" AND ( \"b\" OR \"c\" ) FROM t",
+    ),
+    (
+        "SELECT NOT a OR b, NOT (a OR b), (NOT a) OR b, a OR NOT b FROM t",
+        "SELECT NOT \"a\" OR \"b\" , NOT ( \"a\" OR \"b\" ) , NOT \"a\" OR \"b\" , \"a\" OR NOT \"b\" FROM t",
+    ),
+    (
+        "SELECT NOT NOT a, NOT (NOT (a)), NOT(a) FROM t",
+        "SELECT NOT NOT \"a\" , NOT NOT \"a\" , NOT \"a\" FROM t",
+    ),
+    (
+        "SELECT NOT a + b, (NOT a) + b, a - (NOT b) FROM t",
+        "SELECT NOT \"a\" + \"b\" , ( NOT \"a\" ) + \"b\" , \"a\" - ( NOT \"b\" ) FROM t",
+    ),
+    (
+        "SELECT NOT -a, -(NOT a) FROM t",
+        "SELECT NOT - \"a\" , - ( NOT \"a\" ) FROM t",
+    ),
+    (
+        "SELECT (a + b) = (c - d), a + (b = c), a * (b = c), -(a = b), -a = -b FROM t",
+        "SELECT \"a\" + \"b\" = \"c\" - \"d\" , \"a\" + ( \"b\" = \"c\" ) , \"a\" * ( \"b\" = \"c\" ) , - ( \"a\" = \"b\" ) , - \"a\" = - \"b\" FROM t",
+    ),
+    (
+        "SELECT a - b - c, (a - b) - c, a - (b - c), a - b + c, a - (b + c) FROM t",
+        "SELECT \"a\" - \"b\" - \"c\" , ( \"a\" - \"b\" ) - \"c\" , \"a\" - ( \"b\" - \"c\" ) , \"a\" - \"b\" + \"c\" , \"a\" - ( \"b\" + \"c\" ) FROM t",
+    ),
+    (
+        "SELECT a + b * c, (a + b) * c, a * (b - c), a * b + c * d, (a * b) + (c * d) FROM t",
+        "SELECT \"a\" + \"b\" * \"c\" , ( \"a\" + \"b\" ) * \"c\" , \"a\" * ( \"b\" - \"c\" ) , \"a\" * \"b\" + \"c\" * \"d\" , \"a\" * \"b\" + \"c\" * \"d\" FROM t",
+    ),
+    (
+        "SELECT a * b * c, (a * b) * c, a * (b * c) FROM t",
+        "SELECT \"a\" * \"b\" * \"c\" , ( \"a\" * \"b\" ) * \"c\" , \"a\" * ( \"b\" * \"c\" ) FROM t",
+    ),
+    (
+        "SELECT -a + b, -(a + b), (-a) + b, a + -b, a - (-b) FROM t",
+        "SELECT - \"a\" + \"b\" , - ( \"a\" + \"b\" ) , - \"a\" + \"b\" , \"a\" + - \"b\" , \"a\" - - \"b\" FROM t",
+    ),
+    (
+        "SELECT - - a, -(-a), --a, a--b, ---1 FROM t",
+        "SELECT - - \"a\" , - - \"a\" , - - \"a\" , \"a\" - - \"b\" , - - - 1 FROM t",
+    ),
+    ("SELECT a * * b FROM t", "! syntax"),
+];
 
-fn minus(alloc: Global, term: Term) -> Result<Term, AllocError> {
-    Ok(Term::Minus(Boxed::new(alloc, term)?))
-}
+// Loads.
+const LOADS: [(&str, &str); 9] = [
+    ("LOAD t {\"a\":1}", "LOAD t {\"a\":1}"),
+    ("load t{\"a\":1}", "LOAD t {\"a\":1}"),
+    (
+        " LoAd\tt\r\n[ {\"a\" : 1} ,\n{} ] \r\n",
+        "LOAD t [ {\"a\" : 1} ,\n{} ]",
+    ),
+    ("LOAD tä {}", "LOAD t ä {}"),
+    ("LOAD t not json ' \" ; ?", "LOAD t not json ' \" ; ?"),
+    ("LOAD t", "LOAD t"),
+    ("LOAD load {}", "LOAD load {}"),
+    ("LOAD select {}", "! syntax"),
+    ("LOAD", "! syntax"),
+];
 
-fn difference(alloc: Global, first: Term, second: Term) -> Result<Term, AllocError> {
-    let mut members = Items::new(alloc);
-    members.push(Addend {
-        minus: false,
-        term: first,
-    })?;
-    members.push(Addend {
-        minus: true,
-        term: second,
-    })?;
-    Ok(Term::Sum(members))
-}
-
-fn equal(alloc: Global, left: Term, right: Term) -> Result<Term, AllocError> {
-    Ok(Term::Compare {
-        op: CompareOp::Eq,
-        left: Boxed::new(alloc, left)?,
-        right: Boxed::new(alloc, right)?,
-    })
-}
-
-fn negation(alloc: Global, term: Term) -> Result<Term, AllocError> {
-    Ok(Term::Not(Boxed::new(alloc, term)?))
-}
-
-fn shown(alloc: Global, term: &Term) -> Result<Vec<u8>, AllocError> {
+// What is printed of the statement that a text spells, or why none is read.
+fn shown(alloc: Global, text: &str) -> Result<Vec<u8>, AllocError> {
     let mut out = Vec::new(alloc);
-    write_expression(&mut out, term)?;
+    match parse(alloc, text) {
+        Ok(statement) => print(&statement, &mut out)?,
+        Err(ParseFault::Syntax) => out.extend_from_slice(b"! syntax")?,
+        Err(ParseFault::Memory) => out.extend_from_slice(b"! memory")?,
+    }
     Ok(out)
 }
 
-#[test]
-fn brackets_stand_where_a_tighter_rule_is_asked_for(rt: HostRuntime) -> Result<(), Fail> {
-    let alloc = rt.alloc();
-    let (a, b, c) = ("a", "b", "c");
-    let rows = [
-        (
-            and(
-                alloc,
-                or(alloc, column(alloc, a)?, column(alloc, b)?)?,
-                column(alloc, c)?,
-            )?,
-            " ( \"a\" OR \"b\" ) AND \"c\"",
-        ),
-        (
-            or(
-                alloc,
-                and(alloc, column(alloc, a)?, column(alloc, b)?)?,
-                column(alloc, c)?,
-            )?,
-            " \"a\" AND \"b\" OR \"c\"",
-        ),
-        (
-            or(
-                alloc,
-                or(alloc, column(alloc, a)?, column(alloc, b)?)?,
-                column(alloc, c)?,
-            )?,
-            " ( \"a\" OR \"b\" ) OR \"c\"",
-        ),
-        (
-            minus(alloc, minus(alloc, column(alloc, a)?)?)?,
-            " - - \"a\"",
-        ),
-        (
-            minus(
-                alloc,
-                difference(alloc, column(alloc, a)?, column(alloc, b)?)?,
-            )?,
-            " - ( \"a\" - \"b\" )",
-        ),
-        (
-            difference(
-                alloc,
-                column(alloc, a)?,
-                difference(alloc, column(alloc, b)?, column(alloc, c)?)?,
-            )?,
-            " \"a\" - ( \"b\" - \"c\" )",
-        ),
-        (
-            equal(
-                alloc,
-                equal(alloc, column(alloc, a)?, column(alloc, b)?)?,
-                column(alloc, c)?,
-            )?,
-            " ( \"a\" = \"b\" ) = \"c\"",
-        ),
-        (
-            negation(alloc, or(alloc, column(alloc, a)?, column(alloc, b)?)?)?,
-            " NOT ( \"a\" OR \"b\" )",
-        ),
-        (
-            equal(alloc, Term::Text(Utf::of(alloc, "it's")?), Term::Number(7))?,
-            " 'it''s' = 7",
-        ),
-    ];
-    for (term, text) in &rows {
-        let out = shown(alloc, term)?;
-        assert_eq!(rt; out.as_slice(), text.as_bytes());
+// Each text is shown so, and what is printed is shown as it stands.
+fn are_shown<R: Abort + AllocGlobal>(rt: &R, rows: &[(&str, &str)]) -> Result<(), Fail> {
+    for (text, want) in rows {
+        assert_eq!(rt; shown(rt.alloc(), text)?.as_slice(), want.as_bytes());
+        assert_eq!(rt; shown(rt.alloc(), want)?.as_slice(), want.as_bytes());
     }
+    Ok(())
+}
+
+#[test]
+fn statements_are_printed(rt: HostRuntime) -> Result<(), Fail> {
+    are_shown(&rt, &QUESTIONS)?;
+    are_shown(&rt, &LEAVES)?;
+    are_shown(&rt, &TESTS)?;
+    are_shown(&rt, &OPERATORS)?;
+    are_shown(&rt, &LOADS)?;
     Ok(())
 }

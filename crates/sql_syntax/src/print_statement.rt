@@ -1,10 +1,9 @@
-ghost use Rattle.std.specs.Prelude.{◌≡◌, ◌++◌, ◌∷◌, ℕ, List, codes, map, OnOk, OnErr};
+ghost use Rattle.std.specs.Prelude.{◌≡◌, ◌++◌, ◌∷◌, codes, map, OnOk, OnErr};
 ghost use Rattle.sql_grammar.specs.declared.mark.Mark.TheVariants as marks;
 ghost use Rattle.sql_grammar.specs.declared.terminal.Terminal.TheVariants as terminal;
 ghost use Rattle.sql_syntax.specs.Printing.{joined_by};
 ghost use Rattle.sql_syntax.specs.PrintingQuery.{behind_printed, set_printed};
 ghost use Rattle.sql_syntax.specs.PrintingText.{json_printed, sets_printed, spaced, statement_printed};
-ghost use Rattle.sql_grammar.specs.Statement.{Spells};
 
 use crate::print_queries::{write_behind_mark, write_expression, write_question};
 use crate::print_terminals::{write_mark, write_mark_before, write_name, write_word};
@@ -12,10 +11,9 @@ use sql_grammar::Mark;
 use sql_tree::{Set, Statement, Term};
 use std::alloc::AllocError;
 
-/// Appends the text of a statement that some text spells: keywords in capitals, single spaces, and no brackets that
-/// could be left out.
+/// Appends the text of a statement: keywords in capitals, single spaces, and no brackets that could be left out. It reads
+/// as the statement again where some text spells it.
 pub fn print(statement: &Statement, out: &mut Vec<u8>) -> Result<(), AllocError>
-    requires { (text : List ℕ) × Spells text statement.now }
     ensures ok { OnOk result (out.new.items ≡ out.old.items ++ statement_printed statement.now) }
     ensures memory { OnErr result (out.new.items ≡ out.old.items) }
 {

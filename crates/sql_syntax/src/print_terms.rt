@@ -7,12 +7,12 @@ ghost use Rattle.sql_syntax.specs.PrintingTerm.{member_printed, printed};
 ghost use Rattle.sql_syntax.specs.PrintingText.{spaced};
 
 use crate::print_leaves::{
-    mark_of, sign_mark, truth_mark, write_aggregate_word, write_count_all, write_denial,
-    write_reference, write_wanted,
+    mark_of, sign_mark, truth_mark, write_aggregate_word, write_count_all, write_reference,
+    write_wanted,
 };
 use crate::print_rules::is_bracketed;
 use crate::print_terminals::{write_mark, write_number, write_text};
-use crate::print_tests::{write_any_of, write_is_null, write_like};
+use crate::print_tests::{write_any_of, write_is_null, write_test};
 use crate::print_tightness::Tightness;
 use sql_grammar::Mark;
 use sql_tree::{Addend, AggCall, Term};
@@ -55,33 +55,7 @@ fn write_node(out: &mut Vec<u8>, term: &Term) -> Result<(), AllocError>
             Ok(())
         }
         Term::IsNull { arg, negated } => write_is_null(out, arg.get(), *negated),
-        Term::Among {
-            arg,
-            members,
-            negated,
-        } => {
-            write_term(out, arg.get(), Tightness::Sum)?;
-            write_denial(out, *negated)?;
-            write_members(out, members.as_slice())?;
-            Ok(())
-        }
-        Term::Between {
-            arg,
-            low,
-            high,
-            negated,
-        } => {
-            write_term(out, arg.get(), Tightness::Sum)?;
-            write_denial(out, *negated)?;
-            write_behind(out, Mark::Between, low.get(), Tightness::Sum)?;
-            write_behind(out, Mark::And, high.get(), Tightness::Sum)?;
-            Ok(())
-        }
-        Term::Like {
-            arg,
-            pattern,
-            negated,
-        } => write_like(out, arg.get(), pattern.text(), *negated),
+        Term::Among { .. } | Term::Between { .. } | Term::Like { .. } => write_test(out, term),
         Term::AnyOf { arg, column } => write_any_of(out, arg.get(), column),
         Term::Sum(members) => write_sum(out, members.as_slice()),
         Term::Product(terms) => write_chain(out, Mark::Star, terms.as_slice(), Tightness::Unary),
@@ -93,7 +67,7 @@ fn write_node(out: &mut Vec<u8>, term: &Term) -> Result<(), AllocError>
 
 /// Writes a term behind a mark.
 #[cycle(print)]
-fn write_behind(
+pub(crate) fn write_behind(
     out: &mut Vec<u8>,
     mark: Mark,
     term: &Term,
@@ -161,7 +135,7 @@ fn write_others(
 
 /// Writes the members that a test names, behind IN.
 #[cycle(print)]
-fn write_members(out: &mut Vec<u8>, terms: &[Term]) -> Result<(), AllocError>
+pub(crate) fn write_members(out: &mut Vec<u8>, terms: &[Term]) -> Result<(), AllocError>
     ensures ok { OnOk result (out.new.items ≡ out.old.items ++ spaced (terminal.Mark marks.In ∷ bracketed (joined_by marks.Comma (all_at tight.Expr (map printed terms.now))))) }
 {
     write_mark(out, Mark::In)?;

@@ -94,12 +94,12 @@ pub print_terms::write_node-returns-in_ok-write_behind-in-Compare : goal.print_t
 print_terms::write_node-returns-in_ok-write_behind-in-Compare t c =
     record { ok = compare_whole _ _ _ _ _ _ _ _ _ _ c.in-Compare.is c.get-in-Compare.ensures c.get-in-Compare-2.ensures c.mark_of.ensures.exact c.in_ok-write_term-in-Compare.ensures.ok c.in_ok-write_behind-in-Compare.ensures.ok }
 
-pub print_terms::write_node-returns-in_ok-write_members-in-Among : goal.print_terms::write_node-returns-in_ok-write_members-in-Among
-print_terms::write_node-returns-in_ok-write_members-in-Among t c =
-    record { ok = among_whole _ _ _ _ _ _ _ _ _ _ c.in-Among.is c.get-in-Among.ensures c.as_slice-in-Among.ensures c.in_ok-write_term-in-Among.ensures.ok c.in_ok-write_denial-in-Among.ensures.ok c.in_ok-write_members-in-Among.ensures.ok }
+pub print_tests::write_test-returns-in_ok-write_members-in-Among : goal.print_tests::write_test-returns-in_ok-write_members-in-Among
+print_tests::write_test-returns-in_ok-write_members-in-Among t c =
+    record { ok = among_whole _ _ _ _ _ _ _ _ _ _ c.in-Among.is c.get.ensures c.as_slice.ensures c.in_ok-write_term-in-Among.ensures.ok c.in_ok-write_denial-in-Among.ensures.ok c.in_ok-write_members-in-Among.ensures.ok }
 
-pub print_terms::write_node-returns-in_ok-write_behind-in-Between-2 : goal.print_terms::write_node-returns-in_ok-write_behind-in-Between-2
-print_terms::write_node-returns-in_ok-write_behind-in-Between-2 t c =
+pub print_tests::write_test-returns-in_ok-write_behind-in-Between-2 : goal.print_tests::write_test-returns-in_ok-write_behind-in-Between-2
+print_tests::write_test-returns-in_ok-write_behind-in-Between-2 t c =
     record {
       ok = between_whole _ _ _ _ _ _ _ _ _ _ _ _ _ c.in-Between.is c.get-in-Between.ensures c.get-in-Between-2.ensures c.get-in-Between-3.ensures c.in_ok-write_term-in-Between.ensures.ok c.in_ok-write_denial-in-Between.ensures.ok
           c.in_ok-write_behind-in-Between.ensures.ok c.in_ok-write_behind-in-Between-2.ensures.ok;
