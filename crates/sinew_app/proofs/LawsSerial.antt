@@ -4,7 +4,7 @@ use Rattle.std.proofs.lemmas.List.{take_all}
 use Rattle.std.proofs.lemmas.Option.{get_or_from_slice_get}
 use Rattle.script_reader.specs.Script.{IsScript}
 use Rattle.script_reader.specs.declared.line.Line.{Line}
-use Rattle.commit_core.specs.Commits.{told_by_line, with_entry}
+use Rattle.commit_core.specs.Commits.{told_over, with_entry}
 use Rattle.commit_core.specs.Replies.{Told, reply_at}
 use Rattle.commit_core.specs.declared.entry.Entry.{Entry}
 use Rattle.commit_core.specs.declared.reply.Reply.{Reply}
@@ -42,7 +42,7 @@ one_more : (lines : List Line) → IsScript lines → (n : ℕ) → n < length l
 one_more lines rules n l made =
     let here = there lines n l in
     let line = here.0 in
-    let told : Told = told_by_line made.commits line.text in
+    let told : Told = told_over made.commits line.text in
     let new : List Entry = with_entry told.accepted made.commits (record { caller = 0; text = line.text }) in
     let reply : Reply = reply_at (length new) told in
     record {

@@ -1,6 +1,6 @@
 ghost use Rattle.std.specs.Prelude.{◌≡◌, length, IfOk, OnErr};
 ghost use Rattle.commit_core.specs.Agreement.{sort_of};
-ghost use Rattle.commit_core.specs.Commits.{IsWrite, told_by_line};
+ghost use Rattle.commit_core.specs.Commits.{IsWrite, told_over};
 ghost use Rattle.commit_core.specs.Plan.{plan_of};
 ghost use Rattle.commit_core.specs.Replies.{reply_at};
 
@@ -22,7 +22,7 @@ pub fn answer(alloc: Global, caller: u32, text: &str, store: &mut Core) -> Resul
 
 fn answer_query(store: &Core, prepared: &Prepared) -> Result<Reply, AllocError>
     requires { sort_of (plan_of prepared.now) ≡ PreparedSort.Read }
-    ensures ok { IfOk result (λ reply. reply ≡ reply_at (length store.now) (told_by_line store.now prepared.now)) }
+    ensures ok { IfOk result (λ reply. reply ≡ reply_at (length store.now) (told_over store.now prepared.now)) }
 {
     let mut reading = store.begin(prepared)?;
     store.reread(&mut reading)?;
