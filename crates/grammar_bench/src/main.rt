@@ -64,16 +64,10 @@ fn time_all(rt: &HostRuntime, texts: &str) -> Result<()> {
 
 // Prints the times of a text.
 fn time_one(rt: &HostRuntime, text: &str) -> Result<()> {
-    let mut reading = u128::MAX;
-    for _ in 0..ROUNDS {
-        reading = reading.min(time_parse(rt, text)?);
-    }
+    let reading = best_parse(rt, text)?;
     match read(rt, text)? {
         Some(statement) => {
-            let mut printing = u128::MAX;
-            for _ in 0..ROUNDS {
-                printing = printing.min(time_print(rt, &statement)?);
-            }
+            let printing = best_print(rt, &statement)?;
             println!(rt; "{reading} {printing} 1")?;
         }
         None => println!(rt; "{reading} 0 0")?,
@@ -81,15 +75,27 @@ fn time_one(rt: &HostRuntime, text: &str) -> Result<()> {
     Ok(())
 }
 
+fn best_parse(rt: &HostRuntime, text: &str) -> Result<u128> {
+    let mut best = u128::MAX;
+    for _ in 0..ROUNDS {
+        best = best.min(time_parse(rt, text)?);
+    }
+    Ok(best)
+}
+
 // The nanoseconds in which a text is read; the statement is let go outside of them.
 fn time_parse(rt: &HostRuntime, text: &str) -> Result<u128> {
     let start = Instant::now(rt)?;
-    let statement = parse(rt.alloc(), text);
-    let taken = start.elapsed(rt)?.as_nanos();
-    match statement {
-        Err(ParseFault::Memory) => Err(anyhow!("memory was wanting")),
-        _ => Ok(taken),
+    let _statement = read(rt, text)?;
+    Ok(start.elapsed(rt)?.as_nanos())
+}
+
+fn best_print(rt: &HostRuntime, statement: &Statement) -> Result<u128> {
+    let mut best = u128::MAX;
+    for _ in 0..ROUNDS {
+        best = best.min(time_print(rt, statement)?);
     }
+    Ok(best)
 }
 
 // The nanoseconds in which a statement is printed.
