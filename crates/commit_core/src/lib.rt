@@ -31,6 +31,8 @@ mod state_laws;
 mod store;
 mod stored_value;
 mod table;
+#[cfg(test)]
+mod tests;
 mod whole_document;
 
 pub use entry::Entry;
