@@ -34,25 +34,22 @@ fn print_all(rt: &HostRuntime, texts: &str) -> Result<()> {
 
 // Prints the statement that a text spells.
 fn print_one(rt: &HostRuntime, text: &str) -> Result<()> {
-    match read(rt, text)? {
-        Some(statement) => {
-            let mut out = Vec::new(rt.alloc());
-            print(&statement, &mut out)?;
-            let line = str::from_utf8(out.as_slice())?;
-            println!(rt; "{line}")?;
-        }
-        None => println!(rt; "! syntax")?,
-    }
-    Ok(())
-}
-
-// The statement that a text spells, if it spells one.
-fn read(rt: &HostRuntime, text: &str) -> Result<Option<Statement>> {
     match parse(rt.alloc(), text) {
-        Ok(statement) => Ok(Some(statement)),
-        Err(ParseFault::Syntax) => Ok(None),
+        Ok(statement) => print_statement(rt, &statement),
+        Err(ParseFault::Syntax) => print_line(rt, "! syntax"),
         Err(ParseFault::Memory) => Err(anyhow!("memory was wanting")),
     }
+}
+
+fn print_statement(rt: &HostRuntime, statement: &Statement) -> Result<()> {
+    let mut out = Vec::new(rt.alloc());
+    print(statement, &mut out)?;
+    print_line(rt, str::from_utf8(out.as_slice())?)
+}
+
+fn print_line(rt: &HostRuntime, line: &str) -> Result<()> {
+    println!(rt; "{line}")?;
+    Ok(())
 }
 
 fn time_all(rt: &HostRuntime, texts: &str) -> Result<()> {
@@ -64,30 +61,44 @@ fn time_all(rt: &HostRuntime, texts: &str) -> Result<()> {
 
 // Prints the times of a text.
 fn time_one(rt: &HostRuntime, text: &str) -> Result<()> {
-    let reading = best_parse(rt, text)?;
-    match read(rt, text)? {
-        Some(statement) => {
-            let printing = best_print(rt, &statement)?;
-            println!(rt; "{reading} {printing} 1")?;
-        }
-        None => println!(rt; "{reading} 0 0")?,
+    let reading = best_read(rt, text)?;
+    match parse(rt.alloc(), text) {
+        Ok(statement) => time_statement(rt, reading, &statement),
+        Err(ParseFault::Syntax) => print_times(rt, reading, 0, 0),
+        Err(ParseFault::Memory) => Err(anyhow!("memory was wanting")),
     }
+}
+
+fn time_statement(rt: &HostRuntime, reading: u128, statement: &Statement) -> Result<()> {
+    let printing = best_print(rt, statement)?;
+    print_times(rt, reading, printing, 1)
+}
+
+fn print_times(rt: &HostRuntime, reading: u128, printing: u128, spelled: u8) -> Result<()> {
+    println!(rt; "{reading} {printing} {spelled}")?;
     Ok(())
 }
 
-fn best_parse(rt: &HostRuntime, text: &str) -> Result<u128> {
+fn best_read(rt: &HostRuntime, text: &str) -> Result<u128> {
     let mut best = u128::MAX;
     for _ in 0..ROUNDS {
-        best = best.min(time_parse(rt, text)?);
+        best = best.min(time_read(rt, text)?);
     }
     Ok(best)
 }
 
-// The nanoseconds in which a text is read; the statement is let go outside of them.
-fn time_parse(rt: &HostRuntime, text: &str) -> Result<u128> {
+// The nanoseconds in which a text is read, and what is read of it let go.
+fn time_read(rt: &HostRuntime, text: &str) -> Result<u128> {
     let start = Instant::now(rt)?;
-    let _statement = read(rt, text)?;
+    read(rt, text)?;
     Ok(start.elapsed(rt)?.as_nanos())
+}
+
+fn read(rt: &HostRuntime, text: &str) -> Result<()> {
+    match parse(rt.alloc(), text) {
+        Ok(_) | Err(ParseFault::Syntax) => Ok(()),
+        Err(ParseFault::Memory) => Err(anyhow!("memory was wanting")),
+    }
 }
 
 fn best_print(rt: &HostRuntime, statement: &Statement) -> Result<u128> {

@@ -1,4 +1,4 @@
-use crate::{ParseFault, parse, print};
+use crate::{ParseFault, Statement, parse, print};
 use std::alloc::{AllocError, Global};
 use std::process::Abort;
 use std::test::Fail;
@@ -220,14 +220,18 @@ const LOADS: [(&str, &str); 9] = [
     ("LOAD", "! syntax"),
 ];
 
-// What is printed of the statement that a text spells, or why none is read.
+// What is printed of the statement that a text spells, or that none is.
 fn shown(alloc: Global, text: &str) -> Result<Vec<u8>, AllocError> {
-    let mut out = Vec::new(alloc);
     match parse(alloc, text) {
-        Ok(statement) => print(&statement, &mut out)?,
-        Err(ParseFault::Syntax) => out.extend_from_slice(b"! syntax")?,
-        Err(ParseFault::Memory) => out.extend_from_slice(b"! memory")?,
+        Ok(statement) => printed(alloc, &statement),
+        Err(ParseFault::Syntax) => b"! syntax".to_vec(alloc),
+        Err(ParseFault::Memory) => Err(AllocError),
     }
+}
+
+fn printed(alloc: Global, statement: &Statement) -> Result<Vec<u8>, AllocError> {
+    let mut out = Vec::new(alloc);
+    print(statement, &mut out)?;
     Ok(out)
 }
 
