@@ -74,63 +74,60 @@ fn cut(rt: &impl Abort, catalog: &mut Catalog, len: u32) {
     catalog.cut(len);
 }
 
-#[test]
-fn walks_through_every_call(rt: HostRuntime) -> Result<(), Fail> {
+// The numbers of the pairs that are added first.
+const AB: AttrId = AttrId(0);
+const TEXT: AttrId = AttrId(1);
+const OTHER: AttrId = AttrId(2);
+
+// A catalog of three pairs, two of them of one name.
+fn three_pairs<R: Abort + AllocGlobal>(rt: &R) -> Result<Catalog, Fail> {
     let mut catalog = Catalog::new(rt.alloc());
-    let ab = catalog.add("a.b", Kind::Int)?;
-    let text = catalog.add("a.b", Kind::Text)?;
-    let other = catalog.add("a", Kind::Int)?;
-    assert_eq!(rt; (ab, text, other), (AttrId(0), AttrId(1), AttrId(2)));
-    assert_eq!(rt; catalog.add("a.b", Kind::Text)?, text);
+    assert_eq!(rt; catalog.add("a.b", Kind::Int)?, AB);
+    assert_eq!(rt; catalog.add("a.b", Kind::Text)?, TEXT);
+    assert_eq!(rt; catalog.add("a", Kind::Int)?, OTHER);
+    assert_eq!(rt; catalog.add("a.b", Kind::Text)?, TEXT);
+    Ok(catalog)
+}
+
+#[test]
+fn pairs_are_found(rt: HostRuntime) -> Result<(), Fail> {
+    let catalog = three_pairs(&rt)?;
     assert_eq!(rt; catalog.len(), 3);
     assert_eq!(rt; catalog.find("a.b", Kind::Bool), None);
     assert_eq!(rt; catalog.find("b", Kind::Int), None);
     let kinds = catalog.kinds_of("a.b");
-    assert_eq!(rt; (kinds.int_id, kinds.text_id), (Some(ab), Some(text)));
+    assert_eq!(rt; (kinds.int_id, kinds.text_id), (Some(AB), Some(TEXT)));
     assert_eq!(rt;
         (kinds.bool_id, kinds.array_id, kinds.object_id),
         (None, None, None)
     );
-    raise(&rt, &mut catalog, ab);
-    raise(&rt, &mut catalog, ab);
-    lower(&rt, &mut catalog, ab);
-    set_home(&rt, &mut catalog, ab, Home::Reservoir);
-    stands(
-        &rt,
-        &catalog,
-        ab,
-        ("a.b", Kind::Int, 1, Home::Reservoir, None),
-    );
-    mark_dirty(&rt, &mut catalog, ab, 7);
-    mark_dirty(&rt, &mut catalog, ab, 9);
-    advance(&rt, &mut catalog, ab);
-    stands(
-        &rt,
-        &catalog,
-        ab,
-        ("a.b", Kind::Int, 1, Home::Reservoir, Some(8)),
-    );
-    set_home(&rt, &mut catalog, ab, Home::Column);
-    stands(
-        &rt,
-        &catalog,
-        ab,
-        ("a.b", Kind::Int, 1, Home::Column, Some(0)),
-    );
-    clear_dirty(&rt, &mut catalog, ab);
-    stands(&rt, &catalog, ab, ("a.b", Kind::Int, 1, Home::Column, None));
-    stands(
-        &rt,
-        &catalog,
-        text,
-        ("a.b", Kind::Text, 0, Home::Reservoir, None),
-    );
-    stands(
-        &rt,
-        &catalog,
-        other,
-        ("a", Kind::Int, 0, Home::Reservoir, None),
-    );
+    Ok(())
+}
+
+fn row_of_ab<'a>(count: u32, home: Home, mark: Option<u32>) -> Row<'a> {
+    ("a.b", Kind::Int, count, home, mark)
+}
+
+#[test]
+fn walks_through_every_call(rt: HostRuntime) -> Result<(), Fail> {
+    let mut catalog = three_pairs(&rt)?;
+    raise(&rt, &mut catalog, AB);
+    raise(&rt, &mut catalog, AB);
+    lower(&rt, &mut catalog, AB);
+    set_home(&rt, &mut catalog, AB, Home::Reservoir);
+    stands(&rt, &catalog, AB, row_of_ab(1, Home::Reservoir, None));
+    mark_dirty(&rt, &mut catalog, AB, 7);
+    mark_dirty(&rt, &mut catalog, AB, 9);
+    advance(&rt, &mut catalog, AB);
+    stands(&rt, &catalog, AB, row_of_ab(1, Home::Reservoir, Some(8)));
+    set_home(&rt, &mut catalog, AB, Home::Column);
+    stands(&rt, &catalog, AB, row_of_ab(1, Home::Column, Some(0)));
+    clear_dirty(&rt, &mut catalog, AB);
+    stands(&rt, &catalog, AB, row_of_ab(1, Home::Column, None));
+    let text = ("a.b", Kind::Text, 0, Home::Reservoir, None);
+    stands(&rt, &catalog, TEXT, text);
+    let other = ("a", Kind::Int, 0, Home::Reservoir, None);
+    stands(&rt, &catalog, OTHER, other);
     cut(&rt, &mut catalog, 2);
     assert_eq!(rt; catalog.len(), 2);
     assert_eq!(rt; catalog.find("a", Kind::Int), None);

@@ -25,6 +25,7 @@ document_of (number n) = None
 document_of (string s) = None
 document_of (array ds) = None
 
+-- A tree is an object.
 abbrev pub is_object : Data → Bool
 is_object d = is_some (as_object d)
 

@@ -34,64 +34,68 @@ fn runs<R: Abort + AllocGlobal>(
     Ok(())
 }
 
+// Scripts that print one run.
+const SAME: [&[u8]; 5] = [
+    SMALLEST,
+    b"1 LOAD t {\"a\":1}\r\n\r\n1 SELECT a FROM t\r\n",
+    b"\n \t\r\n# LOAD t 3\n\t #\n1 LOAD t {\"a\":1}\n\n1 SELECT a FROM t",
+    b" \t1\t LOAD\tt\t {\"a\" : 1} \t\n1  SELECT \t a\tFROM  t \r",
+    b"1 load t{\"a\":1}\n1\rsElEcT a fRoM t\n",
+];
+
+// Scripts, and what is printed of them.
+const SCRIPTS: [(&[u8], &[u8]); 13] = [
+    (b"", b". 0\n"),
+    (b"# nothing\n\n", b". 0\n"),
+    (b"1 SELECT a FROM t", b"#1.1 @0\nok 0\n. 0\n"),
+    (
+        b"1 LOAD t {\"b\":1}\n1 SELECT a FROM t",
+        b"#1.1 @1\nok 1\n#1.2 @1\n[null]\nok 1\n= 1 1.1\n. 1\n",
+    ),
+    (
+        b"1 LOAD t []\n1 SELECT a FROM t",
+        b"#1.1 @1\nok 0\n#1.2 @1\nok 0\n= 1 1.1\n. 1\n",
+    ),
+    (
+        b"1 LOAD t [{\"a\":1},{},{\"a\":-3}]\n1 SELECT a FROM t",
+        b"#1.1 @1\nok 3\n#1.2 @1\n[1]\n[null]\n[-3]\nok 3\n= 1 1.1\n. 1\n",
+    ),
+    (
+        b"1\n1 DROP t\n1 SELECT a b c FROM t",
+        b"#1.1 @0\n! syntax\n#1.2 @0\n! syntax\n#1.3 @0\n! syntax\n. 0\n",
+    ),
+    (
+        b"1 SELECT set FROM t\n1 SELECT a FROM By\n1 LOAD select {}",
+        b"#1.1 @0\n! syntax\n#1.2 @0\n! syntax\n#1.3 @0\n! syntax\n. 0\n",
+    ),
+    (
+        b"1 LOAD t\n1 LOAD t 3\n1 LOAD t {\"a\":",
+        b"#1.1 @0\n! json 0\n#1.2 @0\n! json 0\n#1.3 @0\n! json 0\n. 0\n",
+    ),
+    (
+        b"1 LOAD t {\"a\":1.5}\n1 LOAD t [{\"a\":1},{\"a.b\":1}]",
+        b"#1.1 @0\n! json 1\n#1.2 @0\n! json 2\n. 0\n",
+    ),
+    (
+        b"1 LOAD t {\"a\":\"x\"}\n1 LOAD t [3]\n1 LOAD t {\"a\":[1,{}]}\n1 SELECT a FROM t",
+        b"#1.1 @1\nok 1\n#1.2 @1\n! json 0\n#1.3 @2\nok 1\n#1.4 @2\n[\"x\"]\n[[1,{}]]\nok 2\n= 1 1.1\n= 2 1.3\n. 2\n",
+    ),
+    (
+        b"1 SELECT a FROM t\n1 LOAD t {\"a\":1}\n1 LOAD u {\"a\":2}\n1 SELECT a FROM u",
+        b"#1.1 @0\nok 0\n#1.2 @1\nok 1\n#1.3 @2\nok 1\n#1.4 @2\n[2]\nok 1\n= 1 1.2\n= 2 1.3\n. 2\n",
+    ),
+    (
+        b"1 LOAD t {\"u\":{\"x\":1}}\n1 SELECT \"u.x\" FROM t\n1 LOAD t []",
+        b"#1.1 @1\nok 1\n#1.2 @1\n[1]\nok 1\n#1.3 @2\nok 0\n= 1 1.1\n= 2 1.3\n. 2\n",
+    ),
+];
+
 #[test]
 fn scripts_print_their_runs(rt: HostRuntime) -> Result<(), Fail> {
-    let same: [&[u8]; 5] = [
-        SMALLEST,
-        b"1 LOAD t {\"a\":1}\r\n\r\n1 SELECT a FROM t\r\n",
-        b"\n \t\r\n# LOAD t 3\n\t #\n1 LOAD t {\"a\":1}\n\n1 SELECT a FROM t",
-        b" \t1\t LOAD\tt\t {\"a\" : 1} \t\n1  SELECT \t a\tFROM  t \r",
-        b"1 load t{\"a\":1}\n1\rsElEcT a fRoM t\n",
-    ];
-    for script in same {
+    for script in SAME {
         ends(&rt, script, Status::Done, PRINTED)?;
     }
-    let rows: [(&[u8], &[u8]); 13] = [
-        (b"", b". 0\n"),
-        (b"# nothing\n\n", b". 0\n"),
-        (b"1 SELECT a FROM t", b"#1.1 @0\nok 0\n. 0\n"),
-        (
-            b"1 LOAD t {\"b\":1}\n1 SELECT a FROM t",
-            b"#1.1 @1\nok 1\n#1.2 @1\n[null]\nok 1\n= 1 1.1\n. 1\n",
-        ),
-        (
-            b"1 LOAD t []\n1 SELECT a FROM t",
-            b"#1.1 @1\nok 0\n#1.2 @1\nok 0\n= 1 1.1\n. 1\n",
-        ),
-        (
-            b"1 LOAD t [{\"a\":1},{},{\"a\":-3}]\n1 SELECT a FROM t",
-            b"#1.1 @1\nok 3\n#1.2 @1\n[1]\n[null]\n[-3]\nok 3\n= 1 1.1\n. 1\n",
-        ),
-        (
-            b"1\n1 DROP t\n1 SELECT a b c FROM t",
-            b"#1.1 @0\n! syntax\n#1.2 @0\n! syntax\n#1.3 @0\n! syntax\n. 0\n",
-        ),
-        (
-            b"1 SELECT set FROM t\n1 SELECT a FROM By\n1 LOAD select {}",
-            b"#1.1 @0\n! syntax\n#1.2 @0\n! syntax\n#1.3 @0\n! syntax\n. 0\n",
-        ),
-        (
-            b"1 LOAD t\n1 LOAD t 3\n1 LOAD t {\"a\":",
-            b"#1.1 @0\n! json 0\n#1.2 @0\n! json 0\n#1.3 @0\n! json 0\n. 0\n",
-        ),
-        (
-            b"1 LOAD t {\"a\":1.5}\n1 LOAD t [{\"a\":1},{\"a.b\":1}]",
-            b"#1.1 @0\n! json 1\n#1.2 @0\n! json 2\n. 0\n",
-        ),
-        (
-            b"1 LOAD t {\"a\":\"x\"}\n1 LOAD t [3]\n1 LOAD t {\"a\":[1,{}]}\n1 SELECT a FROM t",
-            b"#1.1 @1\nok 1\n#1.2 @1\n! json 0\n#1.3 @2\nok 1\n#1.4 @2\n[\"x\"]\n[[1,{}]]\nok 2\n= 1 1.1\n= 2 1.3\n. 2\n",
-        ),
-        (
-            b"1 SELECT a FROM t\n1 LOAD t {\"a\":1}\n1 LOAD u {\"a\":2}\n1 SELECT a FROM u",
-            b"#1.1 @0\nok 0\n#1.2 @1\nok 1\n#1.3 @2\nok 1\n#1.4 @2\n[2]\nok 1\n= 1 1.2\n= 2 1.3\n. 2\n",
-        ),
-        (
-            b"1 LOAD t {\"u\":{\"x\":1}}\n1 SELECT \"u.x\" FROM t\n1 LOAD t []",
-            b"#1.1 @1\nok 1\n#1.2 @1\n[1]\nok 1\n#1.3 @2\nok 0\n= 1 1.1\n= 2 1.3\n. 2\n",
-        ),
-    ];
-    for (script, output) in rows {
+    for (script, output) in SCRIPTS {
         ends(&rt, script, Status::Done, output)?;
     }
     Ok(())

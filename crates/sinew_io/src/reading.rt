@@ -95,7 +95,7 @@ fn read_piece<S: Source, L: Ledger>(
     turns: &mut Turns<L>,
 ) -> Result<Piece, TakeFault>
     requires held { length bytes.old.items ≤ limit }
-    requires offered { length buffer.old ≡ min PIECE (limit + 1 - length bytes.old.items) }
+    requires offered { length buffer.old ≡ min 4096 (limit + 1 - length bytes.old.items) }
     ensures exact { ReadsPiece result limit (S.left source.old) (S.left source.new) bytes.old.items bytes.new.items }
     ensures cause { HasCause (S.faults source.old) (S.faults source.new) (result ≡ Err TakeFault.Failed) }
     ensures turn { turns.new ≡ turns.old + 1 }

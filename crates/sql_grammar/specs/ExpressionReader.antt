@@ -14,10 +14,11 @@ use Rattle.sql_grammar.specs.Languages.{plain}
 use Rattle.sql_grammar.specs.Expression.{Place, expr, unary, column}
 use Rattle.sql_grammar.specs.Reader.{Found, Reader, ◌>>=◌, takes, closed, chain_in}
 
--- A column of no alias, and one of an alias.
+-- A column of no alias.
 abbrev pub unqualified : List ℕ → Ref
 unqualified n = record { qualifier = None; name = n }
 
+-- A column of an alias.
 abbrev pub qualified : List ℕ → List ℕ → Ref
 qualified w n = record { qualifier = Some w; name = n }
 

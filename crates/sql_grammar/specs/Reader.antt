@@ -15,8 +15,9 @@ Found A = Option (A × List Terminal)
 abbrev pub Reader : Type 0 → Type 0
 Reader A = List Terminal → Found A
 
--- Reads on behind what was found.
 infixl 10 ◌>>=◌
+
+-- Reads on behind what was found.
 abbrev pub ◌>>=◌ : {A B : Type 0} → Found A → (A → Reader B) → Found B
 None >>= next = None
 (Some p) >>= next = next p.0 p.1

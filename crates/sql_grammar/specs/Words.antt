@@ -37,10 +37,6 @@ abbrev pub entry : (List ℕ → Bool) → List (List ℕ × Mark) → Option Ma
 entry test [] = None
 entry test (e ∷ es) = if test e.0 then Some e.1 else entry test es
 
--- The word is this one, in any case of letters.
-unfoldable pub is_word : List ℕ → List ℕ → Bool
-is_word word keyword = is_keyword keyword word
-
 -- What a word stands for, if it is reserved.
 abbrev pub mark_of_word : List ℕ → Option Mark
 mark_of_word word = entry (λ keyword. is_keyword keyword word) reserved

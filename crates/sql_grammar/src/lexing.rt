@@ -1,7 +1,7 @@
 ghost use Rattle.std.specs.Prelude.{◌≡◌, All, IfOk, map};
 ghost use Rattle.std.specs.Str.{bytes_eq};
 ghost use Rattle.sql_tokens.specs.Tokens.{Stands, written};
-ghost use Rattle.sql_grammar.specs.Words.{entry, is_word, mark_of_symbol, mark_of_word, terminal_of, terminals_of, word_terminal};
+ghost use Rattle.sql_grammar.specs.Words.{entry, mark_of_symbol, mark_of_word, terminal_of, terminals_of, word_terminal};
 
 use crate::mark::Mark;
 use crate::terminal::Terminal;
@@ -104,7 +104,6 @@ fn word_terminal(alloc: Global, word: &str) -> Result<Terminal, AllocError>
 }
 
 /// What a word stands for, if it is reserved.
-#[tactic(auto, unfolding(crate::specs::Words::is_word))]
 pub(crate) fn mark_of_word(word: &str) -> Option<Mark>
     ensures exact { result ≡ mark_of_word word.now }
 {
@@ -118,20 +117,12 @@ fn mark_of_symbol(symbol: &str) -> Option<Mark>
     symbol_entry(&SYMBOLS, symbol)
 }
 
-/// Whether the word is this one, in any case of letters.
-#[tactic(auto, unfolding(crate::specs::Words::is_word))]
-fn is_word(word: &str, keyword: &str) -> bool
-    ensures exact { result ≡ is_word word.now keyword.now }
-{
-    is_keyword(word, keyword)
-}
-
 /// What the first entry stands for that is the word, in any case of letters.
 fn reserved_entry(mut entries: &[(&str, Mark)], word: &str) -> Option<Mark>
-    ensures exact { result ≡ entry (is_word word.now) (map (λ e. (e.0.now, e.1)) entries.entry.now) }
+    ensures exact { result ≡ entry (λ keyword. is_keyword keyword word.now) (map (λ e. (e.0.now, e.1)) entries.entry.now) }
 {
     while let [first, rest @ ..] = entries {
-        if is_word(word, first.0) {
+        if is_keyword(word, first.0) {
             return Some(first.1);
         }
         entries = rest;

@@ -33,51 +33,53 @@ fn check(rt: &impl Abort, alloc: Global, bytes: &[u8], wanted: &str) -> Result<(
     Ok(())
 }
 
+// Bytes, and the lines of the script that they are, or the fault.
+const SCRIPTS: [(&[u8], &str); 32] = [
+    // Blank lines and remarks say nothing, and count no place.
+    (b"", ""),
+    (b" ", ""),
+    (b"\n \t\r\n\n", ""),
+    (b"# x\n \t# y\n1 A", "1.1 [] \"A\";"),
+    (
+        b" \n1 A\n\n# c\n1 B\n1 C",
+        "1.1 [] \"A\";1.2 [0] \"B\";1.3 [1] \"C\";",
+    ),
+    // A text begins past spaces and tabs, and ends with its line.
+    (b"1 A\n1 B\n", "1.1 [] \"A\";1.2 [0] \"B\";"),
+    (b"\t1\t \tA", "1.1 [] \"A\";"),
+    (b"1  A  B \t", "1.1 [] \"A  B \\t\";"),
+    (b"1", "1.1 [] \"\";"),
+    (b"1 \t\n1 A", "1.1 [] \"\";1.2 [0] \"A\";"),
+    (b"1 after 1.1 SELECT", "1.1 [] \"after 1.1 SELECT\";"),
+    (b"1 # x", "1.1 [] \"# x\";"),
+    (b"1 \xc3\xa4\xe2\x82\xac\xf0\x9d\x84\x9e", "1.1 [] \"ä€𝄞\";"),
+    // A carriage return ends a number, and belongs to a text.
+    (b"1 A\r\n1 B\r\n", "1.1 [] \"A\\r\";1.2 [0] \"B\\r\";"),
+    (b"1\rA", "1.1 [] \"\\rA\";"),
+    (b"1\r", "1.1 [] \"\\r\";"),
+    (b"\r# x", "1 session"),
+    (b"\r1 A", "1 session"),
+    // A session number is `1`, and ends at a blank.
+    (b"01 A", "1 session"),
+    (b"2 A", "1 session"),
+    (b"65 A", "1 session"),
+    (b"1A", "1 session"),
+    (b"1# x", "1 session"),
+    (b"1.1 A", "1 session"),
+    (b"1\xc2\xa0A", "1 session"),
+    (b"\xef\xbb\xbf1 A", "1 session"),
+    (b"\n\n1 A\n\nA", "5 session"),
+    // A line is UTF-8 before all else, and the first bad line decides.
+    (b"1 A\n\xff", "2 utf8"),
+    (b"x \xff", "1 utf8"),
+    (b"# \xff", "1 utf8"),
+    (b"1 \xc3\n1 A", "1 utf8"),
+    (b"1 A\n2 A\n\xff", "2 session"),
+];
+
 #[test]
 fn scripts_are_read_by_the_rules(rt: HostRuntime) -> Result<(), Fail> {
-    let rows: [(&[u8], &str); 32] = [
-        // Blank lines and remarks say nothing, and count no place.
-        (b"", ""),
-        (b" ", ""),
-        (b"\n \t\r\n\n", ""),
-        (b"# x\n \t# y\n1 A", "1.1 [] \"A\";"),
-        (
-            b" \n1 A\n\n# c\n1 B\n1 C",
-            "1.1 [] \"A\";1.2 [0] \"B\";1.3 [1] \"C\";",
-        ),
-        // A text begins past spaces and tabs, and ends with its line.
-        (b"1 A\n1 B\n", "1.1 [] \"A\";1.2 [0] \"B\";"),
-        (b"\t1\t \tA", "1.1 [] \"A\";"),
-        (b"1  A  B \t", "1.1 [] \"A  B \\t\";"),
-        (b"1", "1.1 [] \"\";"),
-        (b"1 \t\n1 A", "1.1 [] \"\";1.2 [0] \"A\";"),
-        (b"1 after 1.1 SELECT", "1.1 [] \"after 1.1 SELECT\";"),
-        (b"1 # x", "1.1 [] \"# x\";"),
-        ("1 ä€𝄞".as_bytes(), "1.1 [] \"ä€𝄞\";"),
-        // A carriage return ends a number, and belongs to a text.
-        (b"1 A\r\n1 B\r\n", "1.1 [] \"A\\r\";1.2 [0] \"B\\r\";"),
-        (b"1\rA", "1.1 [] \"\\rA\";"),
-        (b"1\r", "1.1 [] \"\\r\";"),
-        (b"\r# x", "1 session"),
-        (b"\r1 A", "1 session"),
-        // A session number is `1`, and ends at a blank.
-        (b"01 A", "1 session"),
-        (b"2 A", "1 session"),
-        (b"65 A", "1 session"),
-        (b"1A", "1 session"),
-        (b"1# x", "1 session"),
-        (b"1.1 A", "1 session"),
-        ("1\u{a0}A".as_bytes(), "1 session"),
-        (b"\xef\xbb\xbf1 A", "1 session"),
-        (b"\n\n1 A\n\nA", "5 session"),
-        // A line is UTF-8 before all else, and the first bad line decides.
-        (b"1 A\n\xff", "2 utf8"),
-        (b"x \xff", "1 utf8"),
-        (b"# \xff", "1 utf8"),
-        (b"1 \xc3\n1 A", "1 utf8"),
-        (b"1 A\n2 A\n\xff", "2 session"),
-    ];
-    for (bytes, wanted) in rows {
+    for (bytes, wanted) in SCRIPTS {
         check(&rt, rt.alloc(), bytes, wanted)?;
     }
     Ok(())
