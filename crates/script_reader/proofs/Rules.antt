@@ -1,12 +1,12 @@
 -- The lines that a script is keep the rules.
 use Rattle.std.proofs.Common.{◌≡◌, ℕ, zero, suc, ◌+◌, ◌<◌, ◌≤◌, Bool, true, false, cond, ◌⊎◌, inl, inr, List, [], ◌∷◌, ◌++◌, length, take, map, Option, Some, None, Ok, Err, not, arith, refl, ap, sym, ◌∙◌, subst, ⊎_elim}
-use Rattle.std.specs.Prelude.{◌==◌, nat_lt, ◌||◌, if◌then◌else◌, slice_get}
+use Rattle.std.specs.Prelude.{◌==◌, nat_lt, ◌||◌, ◌↔◌, codes, if◌then◌else◌, slice_get}
 use Rattle.std.specs.List.{slice_split, onto_first, list_all}
 use Rattle.std.specs.Str.{is_utf8}
 use Rattle.std.proofs.lemmas.Bool.{ltb-false}
 use Rattle.std.proofs.lemmas.List.{take-append-le, take_all, length_push, length-map}
 use Rattle.std.proofs.lemmas.List.Splits.{length-slice_split}
-use Rattle.script_reader.specs.Pieces.{Said, nothing, statement, bad, said, spoken, pieces_of, without_empty_end, is_line_feed, IsSession, is_blank, is_remark, statement_in, past, is_gap}
+use Rattle.script_reader.specs.Pieces.{Said, nothing, statement, bad, said, spoken, pieces_of, without_empty_end, is_line_feed, IsSession, session_of, is_blank, is_remark, statement_in, past, is_gap}
 use Rattle.script_reader.specs.Script.{script_of, first_fault, lines_behind, line_behind, unless_fault, most_script_bytes, IsScript}
 use Rattle.script_reader.specs.declared.line.Line.{Line}
 use Rattle.script_reader.specs.declared.script_fault.ScriptFault.{ScriptFault}
@@ -24,6 +24,17 @@ chosen false quiet other session text h = absurd (cc)
 
 pub said_known : (piece : List ℕ) (session : ℕ) (text : List ℕ) → said piece ≡ statement session text → IsSession session
 said_known piece session text h = spoken_known _ _ session text (chosen (is_utf8 piece) (list_all is_blank piece || is_remark piece) (statement_in (past is_gap piece)) session text h)
+
+-- ---- the sessions are those whose numbers can be written
+session_written : (session : ℕ) → IsSession session → (word : List ℕ) × (session_of word ≡ Some session)
+session_written session h = let e : 1 ≡ session = omega (arith, h.0, h.1) in (codes "1", ap Some e)
+
+word_known : (one : Bool) (session : ℕ) → (if one then Some 1 else None) ≡ Some session → IsSession session
+word_known true session h = let e : 1 ≡ session = cc in (omega arith, omega arith)
+word_known false session h = absurd (cc)
+
+pub sessions_written : (session : ℕ) → IsSession session ↔ ((word : List ℕ) × (session_of word ≡ Some session))
+sessions_written session = (session_written session, λ w. word_known _ session w.1)
 
 -- ---- there are no more pieces than bytes
 one_at_most : (empty : Bool) (part : List ℕ) → length (if empty then [] else part ∷ []) ≤ 1

@@ -1,5 +1,6 @@
-ghost use Rattle.std.specs.Prelude.{◌≡◌, ◌↔◌, ℕ, ◌<◌, ◌≤◌, List, Ok, Err, length};
+ghost use Rattle.std.specs.Prelude.{◌≡◌, ◌↔◌, ℕ, ◌<◌, ◌≤◌, List, Ok, Err, Some, length};
 ghost use Rattle.script_reader.specs.Laws.{AreToldApart, ContainLinesAbove, FollowLinesAbove, HaveSmallNumbers};
+ghost use Rattle.script_reader.specs.Pieces.{IsSession, session_of};
 ghost use Rattle.script_reader.specs.Script.{IsScript, most_script_bytes, script_of};
 ghost use Rattle.script_reader.specs.Relation.{HasFault, IsScriptOf};
 ghost use Rattle.script_reader.specs.declared.line.Line.{Line};
@@ -37,4 +38,9 @@ pub fn followed_lines_stand_above()
 /// The law that session and place are numbers of 32 bits.
 pub fn numbers_are_small()
     ensures { (lines : List Line) → IsScript lines → HaveSmallNumbers lines }
+{}
+
+/// The law that the sessions which there are, are those whose numbers can be written.
+pub fn sessions_are_written()
+    ensures { (session : ℕ) → IsSession session ↔ ((word : List ℕ) × (session_of word ≡ Some session)) }
 {}

@@ -19,7 +19,7 @@ mod why;
 
 pub use laws::{
     bytes_are_one_script, followed_lines_stand_above, lines_are_told_apart,
-    long_bytes_are_no_script, numbers_are_small, scripts_keep_the_rules,
+    long_bytes_are_no_script, numbers_are_small, scripts_keep_the_rules, sessions_are_written,
 };
 pub use line::Line;
 pub use positions::Positions;

@@ -6,6 +6,7 @@
 #![tactic(auto)]
 
 mod got;
+mod laws;
 mod mem_sink;
 mod mem_source;
 mod piece;
@@ -27,6 +28,7 @@ mod writing;
 mod written;
 
 pub use got::Got;
+pub use laws::an_end_leaves_no_bytes;
 pub use mem_sink::MemSink;
 pub use mem_source::MemSource;
 pub use put::Put;

@@ -1,6 +1,7 @@
 ghost use Rattle.std.specs.Prelude.{◌≡◌, All, IfOk, map};
 ghost use Rattle.std.specs.Str.{bytes_eq};
 ghost use Rattle.sql_tokens.specs.Tokens.{Stands, written};
+ghost use Rattle.sql_grammar.specs.Terminals.{is_keyword};
 ghost use Rattle.sql_grammar.specs.Words.{entry, mark_of_symbol, mark_of_word, terminal_of, terminals_of, word_terminal};
 
 use crate::mark::Mark;
