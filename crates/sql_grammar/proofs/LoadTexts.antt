@@ -49,12 +49,12 @@ word-run (c ∷ word) h =
 pub collection-run : (word : List ℕ) → is_collection word ≡ true → IsRun word
 collection-run word h = word-run word (and_parts _ _ (and_parts _ _ h).0).0
 
-pub keyword-run : (keyword word : List ℕ) → is_keyword keyword word ≡ true → IsRun keyword → IsRun word
+pub keyword-run : (keyword word : List ℕ) → is_keyword word keyword ≡ true → IsRun keyword → IsRun word
 keyword-run [] word h run = absurd (omega arith)
 keyword-run (b ∷ keyword) [] h run = absurd (false≢true h)
 keyword-run (b ∷ keyword) (a ∷ word) h run = (letters (b ∷ keyword) (a ∷ word) h run.0, omega arith)
   where
-    letters : (keyword word : List ℕ) → is_keyword keyword word ≡ true → list_all is_word_byte keyword ≡ true → list_all is_word_byte word ≡ true
+    letters : (keyword word : List ℕ) → is_keyword word keyword ≡ true → list_all is_word_byte keyword ≡ true → list_all is_word_byte word ≡ true
     letters [] [] h passes = refl
     letters [] (a ∷ word) h passes = absurd (false≢true h)
     letters (b ∷ keyword) [] h passes = absurd (false≢true h)

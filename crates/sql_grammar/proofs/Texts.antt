@@ -35,14 +35,14 @@ use Rattle.sql_grammar.proofs.Runs.{one-more, run_passes, rest_outside, outside-
 use Rattle.sql_grammar.proofs.LoadTexts.{IsRun, gap-outside, collection-run, keyword-run, word_in-found, behind_word-found, trim-between}
 use Rattle.sql_grammar.proofs.Questions.{question-found, question-again}
 
-load_word-run : (word : List ℕ) → is_keyword (codes "LOAD") word ≡ true → IsRun word
+load_word-run : (word : List ℕ) → is_keyword word (codes "LOAD") ≡ true → IsRun word
 load_word-run word h = keyword-run (codes "LOAD") word h (refl, omega arith)
 
-select_word-run : (word : List ℕ) → is_keyword (codes "SELECT") word ≡ true → IsRun word
+select_word-run : (word : List ℕ) → is_keyword word (codes "SELECT") ≡ true → IsRun word
 select_word-run word h = keyword-run (codes "SELECT") word h (refl, omega arith)
 
 -- a word that is SELECT is not LOAD
-select_word-no-load : (word : List ℕ) → is_keyword (codes "SELECT") word ≡ true → is_keyword (codes "LOAD") word ≡ false
+select_word-no-load : (word : List ℕ) → is_keyword word (codes "SELECT") ≡ true → is_keyword word (codes "LOAD") ≡ false
 select_word-no-load word h =
     false_from_ne_true
     _
@@ -67,7 +67,7 @@ load_is_read text collection json fits spells =
     let second : word_in tail ≡ collection = word_in-found spells.gap collection behind spells.spaces.1.0 name spells.longest in
     let third : behind_word tail ≡ behind = behind_word-found spells.gap collection behind spells.spaces.1.0 name spells.longest in
     let fourth : trim behind ≡ json = trim-between spells.between json spells.after spells.spaces.2 spells.trimmed spells.spaces.3 in
-    let is_load : is_keyword (codes "LOAD") (word_in text) ≡ true = ap (is_keyword (codes "LOAD")) first ∙ spells.is_load in
+    let is_load : is_keyword (word_in text) (codes "LOAD") ≡ true = ap (λ word. is_keyword word (codes "LOAD")) first ∙ spells.is_load in
     let short : not (nat_le (length text) most_statement_bytes) ≡ false = ap not (le-leb (length text) most_statement_bytes fits) in
     let named : is_collection (word_in tail) ≡ true = ap is_collection second ∙ spells.names in
     let found : load_in tail ≡ Some (statement.Load collection json) = cond-true (is_collection (word_in tail)) _ _ named ∙ ap (λ name. Some (statement.Load name (trim (behind_word tail)))) second ∙ ap (λ bytes. Some (statement.Load collection (trim bytes))) third ∙ ap (λ bytes. Some (statement.Load collection bytes)) fourth in
@@ -117,7 +117,7 @@ gap-some (c ∷ bytes) outside some =
 gap-before : (bytes : List ℕ) → BeginsOutside is_word_byte bytes → IsRun (word_in bytes) → IsGap (space_in bytes)
 gap-before bytes outside run = (run_passes is_space bytes, gap-some bytes outside run.1)
 
-load_is_spelled : (text : List ℕ) → is_keyword (codes "LOAD") (word_in text) ≡ true → is_collection (word_in (behind_word text)) ≡ true → SpellsLoad text (word_in (behind_word text)) (trim (behind_word (behind_word text)))
+load_is_spelled : (text : List ℕ) → is_keyword (word_in text) (codes "LOAD") ≡ true → is_collection (word_in (behind_word text)) ≡ true → SpellsLoad text (word_in (behind_word text)) (trim (behind_word (behind_word text)))
 load_is_spelled text is_load named =
     let tail : List ℕ = behind_word text in
     let behind : List ℕ = behind_word tail in
@@ -171,21 +171,21 @@ word-by : (w : List ℕ) (o : Option Mark) → word_terminal w o ≡ terminal.Ma
 word-by w None h = absurd (cc)
 word-by w (Some m) h = let same : m ≡ marks.Select = cc in ap Some same
 
-select-by : (w : List ℕ) (others : List (List ℕ × Mark)) (t : Bool) → is_keyword (codes "SELECT") w ≡ t → (entry (λ keyword. is_keyword keyword w) others ≡ Some marks.Select → ⊥)
-    → (if t then Some marks.Select else entry (λ keyword. is_keyword keyword w) others) ≡ Some marks.Select → t ≡ true
+select-by : (w : List ℕ) (others : List (List ℕ × Mark)) (t : Bool) → is_keyword w (codes "SELECT") ≡ t → (entry (is_keyword w) others ≡ Some marks.Select → ⊥)
+    → (if t then Some marks.Select else entry (is_keyword w) others) ≡ Some marks.Select → t ≡ true
 select-by w others true t never h = refl
 select-by w others false t never h = absurd (never h)
 
 -- A token that is SELECT to the grammar is that word.
 record IsSelect (sort : TokenSort) (bytes : List ℕ) : Type 0 where
   pub word : sort ≡ sorts.Word
-  pub keyword : is_keyword (codes "SELECT") bytes ≡ true
+  pub keyword : is_keyword bytes (codes "SELECT") ≡ true
 
 select-token : (sort : TokenSort) (bytes : List ℕ) → terminal_of sort bytes ≡ terminal.Mark marks.Select → IsSelect sort bytes
 unfolding same_mark
 select-token sorts.Word bytes h =
-    let test : List ℕ → Bool = λ keyword. is_keyword keyword bytes in
-    record { word = refl; keyword = select-by bytes (rest reserved) (is_keyword (codes "SELECT") bytes) refl (entry-never marks.Select test (rest reserved) refl) (word-by bytes (mark_of_word bytes) h) }
+    let test : List ℕ → Bool = is_keyword bytes in
+    record { word = refl; keyword = select-by bytes (rest reserved) (is_keyword bytes (codes "SELECT")) refl (entry-never marks.Select test (rest reserved) refl) (word-by bytes (mark_of_word bytes) h) }
   where
     rest : List (List ℕ × Mark) → List (List ℕ × Mark)
     rest [] = []
@@ -215,16 +215,16 @@ parts text from to h =
     let e6 : take (from - 0) text ≡ take from text = ap (λ n. take n text) e0 in
     sym e1 ∙ ap (λ r. take from text ++ r) (sym e2 ∙ ap (λ r. take (to - from) (drop from text) ++ r) (e3 ∙ e5)) ∙ ap (λ r. r ++ (take (to - from) (drop from text) ++ drop to text)) (sym e6)
 
-first-word : (text : List ℕ) (token : Token) → IsSpace (slice_range text 0 token.from) → Stands text token → IsSelect token.sort (written text token) → is_keyword (codes "SELECT") (word_in text) ≡ true
+first-word : (text : List ℕ) (token : Token) → IsSpace (slice_range text 0 token.from) → Stands text token → IsSelect token.sort (written text token) → is_keyword (word_in text) (codes "SELECT") ≡ true
 first-word text token space stands select =
     let word : List ℕ = written text token in
     let run : IsRun word = keyword-run (codes "SELECT") word select.keyword (refl, omega arith) in
     let ordered : token.from ≤ token.to = omega (arith, run.1, length-take (token.to - token.from) (drop token.from text)) in
     let outside : BeginsOutside is_word_byte (drop token.to text) = subst (λ sort. BeginsOutside (goes_on sort word) (drop token.to text)) select.word stands.longest in
     let found : word_in (slice_range text 0 token.from ++ (word ++ drop token.to text)) ≡ word = word_in-found (slice_range text 0 token.from) word (drop token.to text) space run outside in
-    ap (λ bytes. is_keyword (codes "SELECT") (word_in bytes)) (parts text token.from token.to ordered) ∙ ap (is_keyword (codes "SELECT")) found ∙ select.keyword
+    ap (λ bytes. is_keyword (word_in bytes) (codes "SELECT")) (parts text token.from token.to ordered) ∙ ap (λ word. is_keyword word (codes "SELECT")) found ∙ select.keyword
 
-begins-by : (text : List ℕ) (tokens : List Token) → HasFrom text 0 tokens → Led (terminals_of text tokens) → is_keyword (codes "SELECT") (word_in text) ≡ true
+begins-by : (text : List ℕ) (tokens : List Token) → HasFrom text 0 tokens → Led (terminals_of text tokens) → is_keyword (word_in text) (codes "SELECT") ≡ true
 begins-by text [] has led = let is = led.is in absurd (cc)
 begins-by text (token ∷ more) (tokens.next at space stands others) led = first-word text token space stands (select-token token.sort (written text token) (let is = led.is in cc))
 
@@ -234,7 +234,7 @@ module _ (told : (text : List ℕ) (tokens : List Token) → (tokens_of text ≡
   question_is_read text select tokens are question =
       let e1 : tokens_of text ≡ Some tokens = (told text tokens).1 are in
       let e2 : whole (question_in (terminals_of text tokens)) ≡ Some select = question-again (terminals_of text tokens) select question in
-      let no_load : is_keyword (codes "LOAD") (word_in text) ≡ false = select_word-no-load (word_in text) (begins-by text tokens are.all (question-led select (terminals_of text tokens) question)) in
+      let no_load : is_keyword (word_in text) (codes "LOAD") ≡ false = select_word-no-load (word_in text) (begins-by text tokens are.all (question-led select (terminals_of text tokens) question)) in
       let short : not (nat_le (length text) most_statement_bytes) ≡ false = ap not (le-leb (length text) most_statement_bytes are.fits) in
       cond-false _ _ _ short ∙ cond-false _ _ _ no_load
       ∙ ap (λ o. option_and_then (λ tokens. option_map (λ select. statement.Select select) (whole (question_in (terminals_of text tokens)))) o) e1
@@ -251,12 +251,12 @@ module _ (told : (text : List ℕ) (tokens : List Token) → (tokens_of text ≡
     select-of None w f = absurd (none-some x f)
     select-of (Some select) w f = subst (Spells text) (same_Some (statement.Select select) x f) (s.question ((told text tokens).0 e) (question-found (terminals_of text tokens) select w))
 
-  load_read_is_spelled : (text : List ℕ) (x : Statement) → length text ≤ most_statement_bytes → is_keyword (codes "LOAD") (word_in text) ≡ true → load_in (behind_word text) ≡ Some x → Spells text x
+  load_read_is_spelled : (text : List ℕ) (x : Statement) → length text ≤ most_statement_bytes → is_keyword (word_in text) (codes "LOAD") ≡ true → load_in (behind_word text) ≡ Some x → Spells text x
   load_read_is_spelled text x fits is_load h =
       let found = cond_some (is_collection (word_in (behind_word text))) _ x h in
       subst (Spells text) found.1 (s.load fits (load_is_spelled text is_load found.0))
 
-  read-by : (text : List ℕ) (fits is_load : Bool) (x : Statement) → nat_le (length text) most_statement_bytes ≡ fits → is_keyword (codes "LOAD") (word_in text) ≡ is_load
+  read-by : (text : List ℕ) (fits is_load : Bool) (x : Statement) → nat_le (length text) most_statement_bytes ≡ fits → is_keyword (word_in text) (codes "LOAD") ≡ is_load
       → (if not fits then None else if is_load then load_in (behind_word text) else question_of text) ≡ Some x → Spells text x
   unfolding question_of
   read-by text false is_load x f l h = absurd (none-some x h)
@@ -265,7 +265,7 @@ module _ (told : (text : List ℕ) (tokens : List Token) → (tokens_of text ≡
 
   read_is_spelled : (text : List ℕ) (x : Statement) → statement_of text ≡ Some x → Spells text x
   unfolding statement_of
-  read_is_spelled text x h = read-by text (nat_le (length text) most_statement_bytes) (is_keyword (codes "LOAD") (word_in text)) x refl refl h
+  read_is_spelled text x h = read-by text (nat_le (length text) most_statement_bytes) (is_keyword (word_in text) (codes "LOAD")) x refl refl h
 
   pub read_iff_spelled : (text : List ℕ) (x : Statement) → (statement_of text ≡ Some x) ↔ Spells text x
   read_iff_spelled text x = (read_is_spelled text x, spelled_is_read text x)

@@ -31,7 +31,7 @@ pub record SpellsLoad (text collection json : List ℕ) : Type 0 where
   pub after : List ℕ
   pub parts : text ≡ before ++ (load_word ++ (gap ++ (collection ++ (between ++ (json ++ after)))))
   pub spaces : IsSpace before × IsGap gap × IsSpace between × IsSpace after
-  pub is_load : is_keyword (codes "LOAD") load_word ≡ true
+  pub is_load : is_keyword load_word (codes "LOAD") ≡ true
   pub names : is_collection collection ≡ true
   pub longest : BeginsOutside is_word_byte (between ++ (json ++ after))
   pub trimmed : IsTrimmed json

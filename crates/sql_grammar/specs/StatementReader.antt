@@ -22,5 +22,5 @@ question_of text = option_and_then (λ tokens. option_map (λ select. statement.
 unfoldable pub statement_of : List ℕ → Option Statement
 statement_of text =
     if not (nat_le (length text) most_statement_bytes) then None
-    else if is_keyword (codes "LOAD") (word_in text) then load_in (behind_word text)
+    else if is_keyword (word_in text) (codes "LOAD") then load_in (behind_word text)
     else question_of text

@@ -25,15 +25,15 @@ is_alias word = nat_le (length word) most_alias_bytes
 
 -- The word is this one, in any case of letters.
 abbrev pub is_keyword : List ℕ → List ℕ → Bool
-is_keyword keyword word = str_eq_ignore_ascii_case word keyword
+is_keyword word keyword = str_eq_ignore_ascii_case word keyword
 
 -- The kind that a word asks for where a bracket follows it.
 abbrev pub kind_of : List ℕ → Option Kind
 kind_of word =
-    if is_keyword (codes "INT") word then Some kinds.Int
-    else if is_keyword (codes "TEXT") word then Some kinds.Text
-    else if is_keyword (codes "BOOL") word then Some kinds.Bool
-    else if is_keyword (codes "ARRAY") word then Some kinds.Array
+    if is_keyword word (codes "INT") then Some kinds.Int
+    else if is_keyword word (codes "TEXT") then Some kinds.Text
+    else if is_keyword word (codes "BOOL") then Some kinds.Bool
+    else if is_keyword word (codes "ARRAY") then Some kinds.Array
     else None
 
 -- The comparison that a mark stands for.

@@ -39,7 +39,7 @@ entry test (e ∷ es) = if test e.0 then Some e.1 else entry test es
 
 -- What a word stands for, if it is reserved.
 abbrev pub mark_of_word : List ℕ → Option Mark
-mark_of_word word = entry (λ keyword. is_keyword keyword word) reserved
+mark_of_word word = entry (is_keyword word) reserved
 
 -- What a symbol stands for.
 abbrev pub mark_of_symbol : List ℕ → Option Mark

@@ -120,7 +120,7 @@ fn mark_of_symbol(symbol: &str) -> Option<Mark>
 
 /// What the first entry stands for that is the word, in any case of letters.
 fn reserved_entry(mut entries: &[(&str, Mark)], word: &str) -> Option<Mark>
-    ensures exact { result ≡ entry (λ keyword. is_keyword keyword word.now) (map (λ e. (e.0.now, e.1)) entries.entry.now) }
+    ensures exact { result ≡ entry (is_keyword word.now) (map (λ e. (e.0.now, e.1)) entries.entry.now) }
 {
     while let [first, rest @ ..] = entries {
         if is_keyword(word, first.0) {

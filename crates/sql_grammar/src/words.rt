@@ -25,7 +25,7 @@ pub(crate) fn is_alias(word: &str) -> bool
 
 /// Whether the word is this one, in any case of letters.
 pub(crate) fn is_keyword(word: &str, keyword: &str) -> bool
-    ensures exact { result ≡ is_keyword keyword.now word.now }
+    ensures exact { result ≡ is_keyword word.now keyword.now }
 {
     word.eq_ignore_ascii_case(keyword)
 }

@@ -39,7 +39,7 @@ kind_again kinds.Int w h = refl
 kind_again kinds.Text w h = refl
 kind_again kinds.Bool w h = refl
 kind_again kinds.Array w h = refl
-kind_again kinds.Object w h = absurd (no_object (is_keyword (codes "INT") w) (is_keyword (codes "TEXT") w) (is_keyword (codes "BOOL") w) (is_keyword (codes "ARRAY") w) h)
+kind_again kinds.Object w h = absurd (no_object (is_keyword w (codes "INT")) (is_keyword w (codes "TEXT")) (is_keyword w (codes "BOOL")) (is_keyword w (codes "ARRAY")) h)
 
 pub comparison_again : (op : CompareOp) → comparison_of (mark_of op) ≡ Some op
 comparison_again ops.Eq = refl
