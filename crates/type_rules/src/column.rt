@@ -1,40 +1,53 @@
 ghost use Rattle.std.specs.Hash as fed;
 ghost use Rattle.std.specs.Cmp.{partial_equiv_from_equiv, on_equiv};
-ghost use Rattle.std.specs.Prelude.{◌≡◌};
+ghost use Rattle.std.specs.Prelude.{◌≡◌, IfOk};
 ghost use Rattle.type_rules.specs.Uses.{same_column, same_want};
-ghost use Rattle.type_rules.specs.SameColumns.{columns_equiv, column_hash};
+ghost use Rattle.type_rules.specs.SameColumns.{column_named, columns_equiv, column_hash};
 
-use doc_values::{ColRef, Kind};
+use doc_values::{ColRef, Kind, Utf};
+use std::alloc::AllocError;
 use std::hash::{Hash, Hasher};
 
-// A column that is read, told from others by its name and by the kind that is wanted.
+// A column that is read, told from others by its name, which is lent, and by the kind that is wanted.
 #[derive(Drop)]
-pub(crate) struct Column {
-    pub(crate) column: ColRef,
+pub(crate) struct Column<'a> {
+    pub(crate) name: &'a Utf,
+    pub(crate) want: Option<Kind>,
 }
 
-impl PartialEq for Column {
-    ghost eq = { λ a b. same_column a.column b.column };
-
-    ghost laws = { partial_equiv_from_equiv (on_equiv (λ c. c.column) columns_equiv) };
-
-    fn eq(&self, other: &Column) -> bool {
-        self.column.name.text() == other.column.name.text()
-            && same_want(self.column.want, other.column.want)
+impl<'a> Column<'a> {
+    // The column with a name of its own.
+    pub(crate) fn copy(&self) -> Result<ColRef, AllocError>
+        ensures ok { IfOk result (λ c. c ≡ column_named self.now.name.now self.now.want) }
+    {
+        Ok(ColRef {
+            name: self.name.copy()?,
+            want: self.want,
+        })
     }
 }
 
-impl Eq for Column {
-    ghost laws = { on_equiv (λ c. c.column) columns_equiv };
+impl<'a> PartialEq for Column<'a> {
+    ghost eq = { λ a b. same_column (column_named a.name.now a.want) (column_named b.name.now b.want) };
+
+    ghost laws = { partial_equiv_from_equiv (on_equiv (λ c. column_named c.name.now c.want) columns_equiv) };
+
+    fn eq(&self, other: &Column<'a>) -> bool {
+        self.name.text() == other.name.text() && same_want(self.want, other.want)
+    }
 }
 
-impl Hash for Column {
-    ghost hash_input = { λ c. fed.str c.column.name };
+impl<'a> Eq for Column<'a> {
+    ghost laws = { on_equiv (λ c. column_named c.name.now c.want) columns_equiv };
+}
 
-    ghost respects_eq = { λ a b h. column_hash a.column b.column h };
+impl<'a> Hash for Column<'a> {
+    ghost hash_input = { λ c. fed.str c.name.now };
+
+    ghost respects_eq = { λ a b h. column_hash (column_named a.name.now a.want) (column_named b.name.now b.want) h };
 
     fn hash<H: Hasher>(&self, state: &mut H) {
-        self.column.name.text().hash(state);
+        self.name.text().hash(state);
     }
 }
 

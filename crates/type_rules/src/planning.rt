@@ -62,10 +62,10 @@ fn assembled(
 }
 
 // The expressions of a question.
-fn resolve_parts(
+fn resolve_parts<'a>(
     alloc: Global,
-    columns: &mut Columns,
-    select: &Select,
+    columns: &mut Columns<'a>,
+    select: &'a Select,
 ) -> Result<PlanParts, AllocError>
     requires { list_all (λ p. is_written p.term) (places_of select.now) ≡ true }
     ensures ok { IfOk result (λ parts. AreParts columns.old columns.new select.now parts.items parts.test (map (λ k. k.expr) parts.keys)) }
@@ -84,10 +84,10 @@ fn resolve_parts(
 }
 
 // The expressions of the items.
-fn resolve_items(
+fn resolve_items<'a>(
     alloc: Global,
-    columns: &mut Columns,
-    items: &[Item],
+    columns: &mut Columns<'a>,
+    items: &'a [Item],
 ) -> Result<Items<Expr>, AllocError>
     requires { list_all (λ p. p) (map is_written (map (λ i. i.expr) items.now)) ≡ true }
     ensures ok { IfOk result (λ es. AreResolved columns.old columns.new (flat_map (λ p. p.uses None) (map reader_of (map (λ i. i.expr) items.now))) (λ _. None) (map (λ i. i.expr) items.now) es) }
@@ -101,10 +101,10 @@ fn resolve_items(
 }
 
 // The expression of a condition, where there is one.
-fn resolve_condition(
+fn resolve_condition<'a>(
     alloc: Global,
-    columns: &mut Columns,
-    test: &Option<Term>,
+    columns: &mut Columns<'a>,
+    test: &'a Option<Term>,
 ) -> Result<Option<Expr>, AllocError>
     requires { list_all (λ p. is_written p.term) (condition test.now) ≡ true }
     ensures ok { IfOk result (λ e. Comes columns.old columns.new (flat_map place_uses (condition test.now)) (λ alias. list_all (λ p. every_ref (is_bound (alias ∷ [])) p.term) (condition test.now)) (λ scope refs. ConditionResolves scope refs test.now e)) }
@@ -117,11 +117,11 @@ fn resolve_condition(
 }
 
 // The expressions of the keys, each with its direction.
-fn resolve_keys(
+fn resolve_keys<'a>(
     alloc: Global,
-    columns: &mut Columns,
-    items: &[Item],
-    keys: &[Key],
+    columns: &mut Columns<'a>,
+    items: &'a [Item],
+    keys: &'a [Key],
 ) -> Result<Items<KeyPlan>, AllocError>
     requires { list_all (λ p. p) (map is_written (map (key_term items.now) keys.now)) ≡ true }
     ensures ok { IfOk result (λ ks. AreResolved columns.old columns.new (flat_map (λ p. p.uses None) (map reader_of (map (key_term items.now) keys.now))) (λ _. None) (map (key_term items.now) keys.now) (map (λ k. k.expr) ks)) }

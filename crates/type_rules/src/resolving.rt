@@ -20,10 +20,10 @@ use std::alloc::{AllocError, Global};
 
 // The expression to which a term resolves where a kind is wanted of it, or none. Its references are noted.
 #[cycle(resolving)]
-pub(crate) fn resolve(
+pub(crate) fn resolve<'a>(
     alloc: Global,
-    columns: &mut Columns,
-    term: &Term,
+    columns: &mut Columns<'a>,
+    term: &'a Term,
     want: Option<Kind>,
 ) -> Result<Expr, AllocError>
     requires { is_written term.now ≡ true }
@@ -55,10 +55,10 @@ pub(crate) fn resolve(
 
 // The same, in a box.
 #[cycle(resolving)]
-fn boxed(
+fn boxed<'a>(
     alloc: Global,
-    columns: &mut Columns,
-    term: &Term,
+    columns: &mut Columns<'a>,
+    term: &'a Term,
     want: Option<Kind>,
 ) -> Result<Boxed<Expr>, AllocError>
     requires { is_written term.now ≡ true }
@@ -70,7 +70,7 @@ fn boxed(
 
 // The same of a chain of OR or AND, and of a test of parts other than IN and BETWEEN.
 #[cycle(resolving)]
-fn test(alloc: Global, columns: &mut Columns, term: &Term) -> Result<Expr, AllocError>
+fn test<'a>(alloc: Global, columns: &mut Columns<'a>, term: &'a Term) -> Result<Expr, AllocError>
     requires written { is_written term.now ≡ true }
     requires test { is_test term.now ≡ true }
     ensures ok { IfOk result (λ e. (want : Option KindOf) → IsResolved columns.old columns.new want term.now e) }
@@ -107,7 +107,7 @@ fn test(alloc: Global, columns: &mut Columns, term: &Term) -> Result<Expr, Alloc
 
 // The same of IN. It is written out where the argument has no kind by itself.
 #[cycle(resolving)]
-fn among(alloc: Global, columns: &mut Columns, term: &Term) -> Result<Expr, AllocError>
+fn among<'a>(alloc: Global, columns: &mut Columns<'a>, term: &'a Term) -> Result<Expr, AllocError>
     requires written { is_written term.now ≡ true }
     requires among { is_among term.now ≡ true }
     ensures ok { IfOk result (λ e. (want : Option KindOf) → IsResolved columns.old columns.new want term.now e) }
@@ -134,7 +134,7 @@ fn among(alloc: Global, columns: &mut Columns, term: &Term) -> Result<Expr, Allo
 
 // The same of BETWEEN. It is written out where the argument has no kind by itself.
 #[cycle(resolving)]
-fn between(alloc: Global, columns: &mut Columns, term: &Term) -> Result<Expr, AllocError>
+fn between<'a>(alloc: Global, columns: &mut Columns<'a>, term: &'a Term) -> Result<Expr, AllocError>
     requires written { is_written term.now ≡ true }
     requires between { is_between term.now ≡ true }
     ensures ok { IfOk result (λ e. (want : Option KindOf) → IsResolved columns.old columns.new want term.now e) }
@@ -164,10 +164,10 @@ fn between(alloc: Global, columns: &mut Columns, term: &Term) -> Result<Expr, Al
 
 // The same of a term beside a side that has a kind by itself.
 #[cycle(resolving)]
-fn boxed_beside(
+fn boxed_beside<'a>(
     alloc: Global,
-    columns: &mut Columns,
-    term: &Term,
+    columns: &mut Columns<'a>,
+    term: &'a Term,
     kind: Kind,
 ) -> Result<Boxed<Expr>, AllocError>
     requires written { is_written term.now ≡ true }
@@ -181,12 +181,12 @@ fn boxed_beside(
 
 // The comparison of a term that has no kind by itself with another.
 #[cycle(resolving)]
-fn compared(
+fn compared<'a>(
     alloc: Global,
-    columns: &mut Columns,
-    term: &Term,
+    columns: &mut Columns<'a>,
+    term: &'a Term,
     op: CompareOp,
-    arg: &Term,
+    arg: &'a Term,
 ) -> Result<Expr, AllocError>
     requires written { is_written term.now ≡ true }
     requires arg { is_written arg.now ≡ true }
@@ -202,11 +202,11 @@ fn compared(
 
 // The comparisons of a term that has no kind by itself with each of several.
 #[cycle(resolving)]
-fn each_compared(
+fn each_compared<'a>(
     alloc: Global,
-    columns: &mut Columns,
-    terms: &[Term],
-    arg: &Term,
+    columns: &mut Columns<'a>,
+    terms: &'a [Term],
+    arg: &'a Term,
 ) -> Result<Items<Expr>, AllocError>
     requires written { list_all (λ p. p) (map is_written terms.now) ≡ true }
     requires arg { is_written arg.now ≡ true }
@@ -223,10 +223,10 @@ fn each_compared(
 
 // The same of several terms of which one kind is wanted.
 #[cycle(resolving)]
-fn all(
+fn all<'a>(
     alloc: Global,
-    columns: &mut Columns,
-    terms: &[Term],
+    columns: &mut Columns<'a>,
+    terms: &'a [Term],
     kind: Kind,
 ) -> Result<Items<Expr>, AllocError>
     requires { list_all (λ p. p) (map is_written terms.now) ≡ true }
@@ -242,10 +242,10 @@ fn all(
 
 // The same of the members of a sum.
 #[cycle(resolving)]
-fn addends(
+fn addends<'a>(
     alloc: Global,
-    columns: &mut Columns,
-    members: &[TermAddend],
+    columns: &mut Columns<'a>,
+    members: &'a [TermAddend],
 ) -> Result<Items<Addend>, AllocError>
     requires { list_all (λ p. p) (map is_written_in members.now) ≡ true }
     ensures ok { IfOk result (λ es. AddendsAreResolved columns.old columns.new (flat_map (λ us. us) (map addend_uses members.now)) members.now es) }
@@ -264,10 +264,10 @@ fn addends(
 
 // The same of several terms beside a side that has a kind by itself.
 #[cycle(resolving)]
-fn all_beside(
+fn all_beside<'a>(
     alloc: Global,
-    columns: &mut Columns,
-    terms: &[Term],
+    columns: &mut Columns<'a>,
+    terms: &'a [Term],
     kind: Kind,
 ) -> Result<Items<Expr>, AllocError>
     requires { list_all (λ p. p) (map is_written terms.now) ≡ true }
@@ -283,7 +283,11 @@ fn all_beside(
 }
 
 // The same of a term that has no kind by itself.
-fn lone(columns: &mut Columns, term: &Term, want: Option<Kind>) -> Result<Expr, AllocError>
+fn lone<'a>(
+    columns: &mut Columns<'a>,
+    term: &'a Term,
+    want: Option<Kind>,
+) -> Result<Expr, AllocError>
     requires written { is_written term.now ≡ true }
     requires lone { own_kind term.now ≡ None }
     ensures ok { IfOk result (λ e. IsResolved columns.old columns.new want term.now e) }
