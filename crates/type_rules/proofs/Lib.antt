@@ -9,3 +9,4 @@ pub mod ColumnsNoted
 pub mod Made
 pub mod Chains
 pub mod Planned
+pub mod Naming

@@ -2,6 +2,7 @@ pub mod Places
 pub mod Uses
 pub mod SameColumns
 pub mod Names
+pub mod Aliased
 pub mod Kinds
 pub mod Widths
 pub mod Written

@@ -5,6 +5,7 @@
 //! Read `specs/Fault.antt` first, then `specs/Names.antt`, `specs/Kinds.antt`, `specs/Widths.antt` and `specs/Plan.antt`.
 #![tactic(auto)]
 
+mod aliases;
 mod column;
 mod columns;
 mod fitting;

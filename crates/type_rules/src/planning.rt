@@ -8,6 +8,7 @@ ghost use Rattle.type_rules.specs.Uses.{reader_of, place_uses};
 ghost use Rattle.type_rules.specs.Plan.{ConditionResolves, IsPlanOf};
 ghost use Rattle.type_rules.specs.Steps.{Comes, AreResolved, AreParts, has_numerals, HaveNumerals, HasNumerals};
 
+use crate::aliases::Aliases;
 use crate::columns::Columns;
 use crate::place::key_term;
 use crate::plan_parts::PlanParts;
@@ -20,14 +21,19 @@ use sqlite_items::Items;
 use std::alloc::{AllocError, Global};
 
 // The plan of a question that keeps the rules.
-pub(crate) fn plan(alloc: Global, select: &Select) -> Result<SelectPlan, AllocError>
+pub(crate) fn plan<'a>(
+    alloc: Global,
+    select: &'a Select,
+    aliases: &Aliases<'a>,
+) -> Result<SelectPlan, AllocError>
     requires question { IsQuestion select.now }
+    requires aliases { aliases.now ≡ select.now.items }
     requires kept { question_fault select.now ≡ None }
     ensures ok { IfOk result (λ plan. IsPlanOf select.now plan) }
     ensures numerals { IfOk result HasNumerals }
 {
     let mut columns = Columns::new(alloc);
-    let parts = resolve_parts(alloc, &mut columns, select)?;
+    let parts = resolve_parts(alloc, &mut columns, select, aliases)?;
     let tables = list_of(alloc, table(select).collection.copy()?)?;
     let refs = list_of(alloc, columns.to_items(alloc)?)?;
     Ok(assembled(alloc, select, tables, refs, parts))
@@ -66,21 +72,18 @@ fn resolve_parts<'a>(
     alloc: Global,
     columns: &mut Columns<'a>,
     select: &'a Select,
+    aliases: &Aliases<'a>,
 ) -> Result<PlanParts, AllocError>
-    requires { list_all (λ p. is_written p.term) (places_of select.now) ≡ true }
+    requires aliases { aliases.now ≡ select.now.items }
+    requires written { list_all (λ p. is_written p.term) (places_of select.now) ≡ true }
     ensures ok { IfOk result (λ parts. AreParts columns.old columns.new select.now parts.items parts.test (map (λ k. k.expr) parts.keys)) }
     ensures descending { IfOk result (λ parts. map (λ k. k.descending) parts.keys ≡ map (λ k. k.descending) select.now.keys) }
     ensures numerals { IfOk result (λ parts. HaveNumerals parts.items parts.test (map (λ k. k.expr) parts.keys)) }
 {
-    let items = select.items.as_slice();
-    let exprs = resolve_items(alloc, columns, items)?;
+    let items = resolve_items(alloc, columns, select.items.as_slice())?;
     let test = resolve_condition(alloc, columns, &select.test)?;
-    let keys = resolve_keys(alloc, columns, items, select.keys.as_slice())?;
-    Ok(PlanParts {
-        items: exprs,
-        test,
-        keys,
-    })
+    let keys = resolve_keys(alloc, columns, aliases, select.keys.as_slice())?;
+    Ok(PlanParts { items, test, keys })
 }
 
 // The expressions of the items.
@@ -120,17 +123,17 @@ fn resolve_condition<'a>(
 fn resolve_keys<'a>(
     alloc: Global,
     columns: &mut Columns<'a>,
-    items: &'a [Item],
+    aliases: &Aliases<'a>,
     keys: &'a [Key],
 ) -> Result<Items<KeyPlan>, AllocError>
-    requires { list_all (λ p. p) (map is_written (map (key_term items.now) keys.now)) ≡ true }
-    ensures ok { IfOk result (λ ks. AreResolved columns.old columns.new (flat_map (λ p. p.uses None) (map reader_of (map (key_term items.now) keys.now))) (λ _. None) (map (key_term items.now) keys.now) (map (λ k. k.expr) ks)) }
+    requires { list_all (λ p. p) (map is_written (map (key_term aliases.now) keys.now)) ≡ true }
+    ensures ok { IfOk result (λ ks. AreResolved columns.old columns.new (flat_map (λ p. p.uses None) (map reader_of (map (key_term aliases.now) keys.now))) (λ _. None) (map (key_term aliases.now) keys.now) (map (λ k. k.expr) ks)) }
     ensures descending { IfOk result (λ ks. map (λ k. k.descending) ks ≡ map (λ k. k.descending) keys.now) }
     ensures numerals { IfOk result (λ ks. list_all (λ b. b) (map has_numerals (map (λ k. k.expr) ks)) ≡ true) }
 {
     let mut plans = Items::new(alloc);
     for key in keys {
-        let expr = resolve(alloc, columns, key_term(items, key), None)?;
+        let expr = resolve(alloc, columns, key_term(aliases, key), None)?;
         plans.push(KeyPlan {
             expr,
             descending: key.descending,

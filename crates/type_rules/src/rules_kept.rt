@@ -1,19 +1,20 @@
-ghost use Rattle.std.specs.Prelude.{◌≡◌, [], ◌∷◌, map, None, OnOk, IfErr};
+ghost use Rattle.std.specs.Prelude.{◌≡◌, true, [], ◌∷◌, map, None, OnOk, IfErr};
 ghost use Rattle.type_rules.specs.Places.{alias_of, placed, places_of};
 ghost use Rattle.type_rules.specs.Written.{IsQuestion};
-ghost use Rattle.type_rules.specs.Names.{names_hold};
+ghost use Rattle.type_rules.specs.Names.{are_different, item_aliases, names_hold};
 ghost use Rattle.type_rules.specs.Kinds.{kinds_hold};
 ghost use Rattle.type_rules.specs.Widths.{widths_hold};
 ghost use Rattle.type_rules.specs.Fault.{question_fault};
 
 use crate::place::Place;
-use crate::rules::{aliases_differ, places_bound, places_fit, places_narrow};
+use crate::rules::{places_bound, places_fit, places_narrow};
 use crate::type_fault::TypeFault;
 use sql_tree::{Select, Table};
 
-// The first rule that a question breaks, if it breaks one.
+// The first rule that a question breaks, if it breaks one. No two of its items have one alias.
 pub(crate) fn keep_rules(select: &Select, places: &[Place]) -> Result<(), TypeFault>
     requires question { IsQuestion select.now }
+    requires different { are_different (item_aliases select.now.items) ≡ true }
     requires places { map (λ p. placed p.term.now p.want) places.now ≡ places_of select.now }
     ensures ok { OnOk result (question_fault select.now ≡ None) }
     ensures err { IfErr result (λ fault. question_fault select.now ≡ Some fault) }
@@ -30,14 +31,15 @@ pub(crate) fn keep_rules(select: &Select, places: &[Place]) -> Result<(), TypeFa
     Ok(())
 }
 
-// Whether a question keeps the rule of names.
+// Whether a question keeps the rule of names, where no two of its items have one alias.
 fn names_hold(select: &Select, places: &[Place]) -> bool
     requires question { IsQuestion select.now }
+    requires different { are_different (item_aliases select.now.items) ≡ true }
     requires places { map (λ p. placed p.term.now p.want) places.now ≡ places_of select.now }
     ensures exact { result ≡ names_hold select.now }
 {
     let alias = alias(table(select));
-    aliases_differ(select.items.as_slice()) && places_bound(places, alias)
+    places_bound(places, alias)
 }
 
 // Whether a question keeps the rule of kinds.

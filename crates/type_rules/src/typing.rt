@@ -4,6 +4,7 @@ ghost use Rattle.type_rules.specs.Fault.{fault_of, question_fault};
 ghost use Rattle.type_rules.specs.Plan.{IsTypedOf, IsPlanOf};
 ghost use Rattle.type_rules.specs.Runnable.{CanBeRun};
 
+use crate::aliases::Aliases;
 use crate::place::places;
 use crate::planning::plan;
 use crate::rules_kept::keep_rules;
@@ -38,7 +39,8 @@ fn typed_select(alloc: Global, select: &Select) -> Result<SelectPlan, TypeFault>
     ensures ok { IfOk result (λ plan. (question_fault select.now ≡ None) × IsPlanOf select.now plan × CanBeRun plan) }
     ensures err { IfErr result (λ fault. (fault ≡ TypeFault.Memory) ⊎ (question_fault select.now ≡ Some fault)) }
 {
-    let places = places(alloc, select)?;
+    let aliases = Aliases::of(alloc, select.items.as_slice())?;
+    let places = places(alloc, select, &aliases)?;
     keep_rules(select, places.as_slice())?;
-    Ok(plan(alloc, select)?)
+    Ok(plan(alloc, select, &aliases)?)
 }

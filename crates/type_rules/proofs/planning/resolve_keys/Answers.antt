@@ -1,8 +1,7 @@
-use Rattle.std.proofs.Common.{◌≡◌, Bool, List, [], ◌∷◌, ◌++◌, map, drop, take, ◌+◌, None, refl, sym, ap, ◌∙◌}
+use Rattle.std.proofs.Common.{◌≡◌, Bool, [], ◌∷◌, ◌++◌, map, drop, take, ◌+◌, None, refl, sym, ap, ◌∙◌}
 use Rattle.std.proofs.lemmas.List.{map_more}
 use Rattle.std.specs.List.{list_all}
 use Rattle.sql_tree.specs.declared.key.Key.{Key}
-use Rattle.sql_tree.specs.declared.term.Term.{Term}
 use Rattle.sql_eval.specs.declared.expr.Expr.{Expr}
 use Rattle.sql_eval.specs.declared.key_plan.KeyPlan.{KeyPlan}
 use Rattle.type_rules.specs.Places.{key_term}
@@ -24,7 +23,7 @@ turns k = k.descending
 pub loop-key-preserved : goal.loop-key-preserved
 loop-key-preserved c =
     let keys = c.args.keys.now in
-    let term_of = key_term c.args.items.now in
+    let term_of = key_term c.args.aliases.now in
     let i = c.loop-key.key-index in
     let key = c.key-item.result in
     let e = c.in_ok-expr.expr in
@@ -44,6 +43,6 @@ loop-key-preserved c =
 pub returns-clause-ok : goal.returns-clause-ok
 returns-clause-ok c =
     let keys = c.args.keys.now in
-    let term_of = key_term c.args.items.now in
+    let term_of = key_term c.args.aliases.now in
     let i = c.loop-key.key-index in
     ahead_ends c.args.columns.now c.loop-key.columns (λ p. p.uses None) (λ _. None) (map term_of keys) (map term_of (drop i keys)) (map expr_of c.loop-key.plans) c.loop-key.invariant.ahead (ap (map term_of) (none_left keys i c.loop-key-test.false))
