@@ -1,6 +1,7 @@
 pub mod Loads
 pub mod Agreements
 pub mod WholeLines
+pub mod Later
 pub mod States
 mod StoredValues
 mod StoredFields

@@ -1,7 +1,9 @@
 // Laws of the definitions, for the crates above.
-ghost use Rattle.std.specs.Prelude.{ℕ, List};
+ghost use Rattle.std.specs.Prelude.{◌≡◌, ◌++◌, ℕ, List, false};
 ghost use Rattle.exec_finish.specs.Lines.{IsLines};
-ghost use Rattle.commit_core.specs.Replies.{told_of, state_after};
+ghost use Rattle.commit_core.specs.Agreement.{Agrees, ReadingOf};
+ghost use Rattle.commit_core.specs.Replies.{next_state, told_of, state_after};
+ghost use Rattle.commit_core.specs.State.{State};
 
 use doc_flatten::document_arrays_are_one_line;
 use exec_finish::answers_are_lines;
@@ -15,3 +17,13 @@ pub fn every_reply_is_lines()
     meanings_are_on_one_line();
     answers_are_lines();
 }
+
+/// Law: a text that is told anything but that it is an accepted write leaves the state as it is.
+pub fn what_is_not_accepted_changes_nothing()
+    ensures { (text : List ℕ) (state : State) → (told_of text state).accepted ≡ false → next_state state text ≡ state }
+{}
+
+/// Law: a reading that agrees with commits agrees with them and any later ones.
+pub fn readings_agree_with_later_commits()
+    ensures { (reading : ReadingOf) (texts later : List (List ℕ)) → Agrees reading texts → Agrees reading (texts ++ later) }
+{}

@@ -36,7 +36,9 @@ mod tests;
 mod whole_document;
 
 pub use entry::Entry;
-pub use laws::every_reply_is_lines;
+pub use laws::{
+    every_reply_is_lines, readings_agree_with_later_commits, what_is_not_accepted_changes_nothing,
+};
 pub use limits::Limits;
 pub use prepared::Prepared;
 pub use prepared_sort::PreparedSort;
