@@ -76,7 +76,9 @@ fn cut(rt: &impl Abort, catalog: &mut Catalog, len: u32) {
 
 // The numbers of the pairs that are added first.
 const AB: AttrId = AttrId(0);
+
 const TEXT: AttrId = AttrId(1);
+
 const OTHER: AttrId = AttrId(2);
 
 // A catalog of three pairs, two of them of one name.

@@ -28,5 +28,5 @@ agrees_later reading texts later agrees =
       question = agrees.question;
       planned = agrees.planned;
       reached = omega (arith, agrees.reached, length-append texts later);
-      found = λ rows h. agrees.found rows h ∙ ap (λ front. rows_read agrees.question (documents_asked agrees.question (state_after front))) (sym (take-append-le reading.at texts later agrees.reached))
+      found = λ rows h. agrees.found rows h ∙ ap (λ front. rows_read agrees.question (documents_asked agrees.question (state_after front))) (sym (take-append-le reading.at texts later agrees.reached));
     }

@@ -16,7 +16,6 @@ abbrev pub Reader : Type 0 → Type 0
 Reader A = List Terminal → Found A
 
 infixl 10 ◌>>=◌
-
 -- Reads on behind what was found.
 abbrev pub ◌>>=◌ : {A B : Type 0} → Found A → (A → Reader B) → Found B
 None >>= next = None
