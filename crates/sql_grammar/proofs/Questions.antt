@@ -10,12 +10,12 @@ use Rattle.sql_grammar.specs.declared.terminal.Terminal.{Terminal}
 use Rattle.sql_grammar.specs.declared.terminal.Terminal.TheVariants as terminal
 use Rattle.sql_grammar.specs.Terminals.{only}
 use Rattle.sql_grammar.specs.Languages.{Optional, absent, present, Listed, plain}
-use Rattle.sql_grammar.specs.Reader.{Found, ◌>>=◌, takes, expect, optional_in, listed_in}
+use Rattle.sql_grammar.specs.Reader.{Found, ◌>>=◌, takes, expect, optional_in, listed_in, first_by}
 use Rattle.sql_grammar.specs.Expression.{Expression, Inside, most_levels}
 use Rattle.sql_grammar.specs.TestReader.{expression_in}
 use Rattle.sql_grammar.specs.Query as q
 use Rattle.sql_grammar.specs.Query.{AnItem, ATable, AtMost, Keys, Numeral, Distinct, Tail, ATail, Question, question}
-use Rattle.sql_grammar.specs.QueryReader.{item_in, table_in, at_most_in, keys_in, numeral_in, tail_in, from_in, shown_by, shown_in, distinct_by, distinct_in, question_in, whole}
+use Rattle.sql_grammar.specs.QueryReader.{item_in, table_in, at_most_in, keys_in, numeral_in, tail_in, from_in, shown_by, shown_in, distinct_in, question_in, whole}
 use Rattle.sql_grammar.proofs.Marks.{Stops, Stops-weaken, takes-found, takes-at, takes-other, same-found}
 use Rattle.sql_grammar.proofs.Reading.{Front, Reads, Reads-weaken, bind-found, fronted, expect-found, expect-at}
 use Rattle.sql_grammar.proofs.Openings.{Begins, begins-takes, begins-on, chain-starts, expr-starts}
@@ -111,7 +111,7 @@ record Told (all : List Terminal) (d : Bool × List Terminal) : Type 0 where
   pub tells : Distinct d.0 word
   pub split : all ≡ word ++ d.1
 
-told-by : (all : List Terminal) (o : Option (List Terminal)) → takes marks.Distinct all ≡ o → Told all (distinct_by all o)
+told-by : (all : List Terminal) (o : Option (List Terminal)) → takes marks.Distinct all ≡ o → Told all (first_by all o)
 told-by all None h = record { word = []; tells = q.all; split = refl }
 told-by all (Some rest) h = record { word = terminal.Mark marks.Distinct ∷ []; tells = Distinct.distinct; split = takes-found marks.Distinct all rest h }
 

@@ -9,7 +9,7 @@ use Rattle.sql_grammar.specs.declared.terminal.Terminal.{Terminal}
 use Rattle.sql_grammar.specs.declared.terminal.Terminal.TheVariants as terminal
 use Rattle.sql_grammar.specs.Terminals.{comparison_of, only}
 use Rattle.sql_grammar.specs.Languages.{Language, Denial, affirmed, denied, Listed, plain}
-use Rattle.sql_grammar.specs.Reader.{Found, Reader, ◌>>=◌, takes, expect, closed, denial_by, denial_in, joins_in, listed_in}
+use Rattle.sql_grammar.specs.Reader.{Found, Reader, ◌>>=◌, takes, expect, closed, first_by, denial_in, joins_in, listed_in}
 use Rattle.sql_grammar.specs.Expression as e
 use Rattle.sql_grammar.specs.Expression.{Place, Sum, Behind, Test}
 use Rattle.sql_grammar.specs.ExpressionReader.{sum_in}
@@ -37,7 +37,7 @@ record Denied (all : List Terminal) (d : Bool × List Terminal) : Type 0 where
   pub denies : Denial d.0 word
   pub split : all ≡ word ++ d.1
 
-denied-by : (all : List Terminal) (o : Option (List Terminal)) → takes marks.Not all ≡ o → Denied all (denial_by all o)
+denied-by : (all : List Terminal) (o : Option (List Terminal)) → takes marks.Not all ≡ o → Denied all (first_by all o)
 denied-by all None h = record { word = []; denies = affirmed; split = refl }
 denied-by all (Some rest) h = record { word = terminal.Mark marks.Not ∷ []; denies = denied; split = takes-found marks.Not all rest h }
 

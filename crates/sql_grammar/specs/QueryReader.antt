@@ -9,7 +9,7 @@ use Rattle.sql_grammar.specs.declared.terminal.Terminal.{Terminal}
 use Rattle.sql_grammar.specs.declared.terminal.Terminal.TheVariants as terminal
 use Rattle.sql_grammar.specs.Terminals.{is_alias}
 use Rattle.sql_grammar.specs.Query.{Tail, is_numeral, most_parts, question}
-use Rattle.sql_grammar.specs.Reader.{Found, Reader, ◌>>=◌, takes, expect, optional_in, listed_in}
+use Rattle.sql_grammar.specs.Reader.{Found, Reader, ◌>>=◌, takes, expect, optional_in, listed_in, first_by}
 use Rattle.sql_grammar.specs.TestReader.{expression_in}
 
 -- alias, as one that is there.
@@ -90,14 +90,9 @@ shown_by distinct all None = at_most_in (listed_in item_in) all >>= λ is rest. 
 unfoldable pub shown_in : Bool × List Terminal → Found Select
 shown_in d = shown_by d.0 d.1 (takes marks.Star d.1)
 
--- Whether DISTINCT came first, and what is behind it.
-abbrev pub distinct_by : List Terminal → Option (List Terminal) → Bool × List Terminal
-distinct_by all (Some rest) = (true, rest)
-distinct_by all None = (false, all)
-
 -- [DISTINCT].
 unfoldable pub distinct_in : List Terminal → Bool × List Terminal
-distinct_in all = distinct_by all (takes marks.Distinct all)
+distinct_in all = first_by all (takes marks.Distinct all)
 
 -- A question.
 unfoldable pub question_in : Reader Select

@@ -40,14 +40,14 @@ expect mark all = expect_by (takes mark all)
 abbrev pub closed : {A : Type 0} → A → Reader A
 closed x all = expect marks.Close all >>= λ _ rest. Some (x, rest)
 
--- Whether NOT came first, and what is behind it.
-abbrev pub denial_by : List Terminal → Option (List Terminal) → Bool × List Terminal
-denial_by all (Some rest) = (true, rest)
-denial_by all None = (false, all)
+-- Whether a mark came first, and what is behind it.
+abbrev pub first_by : List Terminal → Option (List Terminal) → Bool × List Terminal
+first_by all (Some rest) = (true, rest)
+first_by all None = (false, all)
 
 -- [NOT].
 unfoldable pub denial_in : List Terminal → Bool × List Terminal
-denial_in all = denial_by all (takes marks.Not all)
+denial_in all = first_by all (takes marks.Not all)
 
 -- What a mark joins by, and what is behind it.
 abbrev pub joins_by : {S : Type 0} → List Terminal → Option S → Found S
