@@ -2,7 +2,7 @@
 //!
 //! A reply at a number is what its text is told over the state after that many commits, however the store
 //! keeps its documents. This crate knows nothing of scripts, sessions or devices. Read `specs/Replies.antt`
-//! first: the reply to a text over a state, and the state after texts, are all that the layers above see.
+//! first: the reply to a text over a state, and the state after texts, are what the promise rests on.
 #![tactic(auto)]
 
 mod answering;

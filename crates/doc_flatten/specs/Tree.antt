@@ -3,10 +3,11 @@ use Rattle.std.specs.Prelude.{ℕ, ℤ, pos, List, [], ◌∷◌, ◌++◌, Bool
 use Rattle.std.specs.List.{list_all}
 use Rattle.serde_json.specs.Data.{Num, unsigned, negative, float, Data, null, boolean, number, string, array, object, Items, no_items, item, Members, no_members, member}
 
--- The number, where it is a signed integer of 64 bits.
+-- An integer, where it is one of 64 bits with a sign.
 abbrev pub in_64_bits : ℤ → Option ℤ
 in_64_bits z = if int_le (negsuc 9223372036854775807) z && int_le z (pos 9223372036854775807) then Some z else None
 
+-- What a JSON number is as a signed integer of 64 bits, where it is one.
 abbrev pub int_of : Num → Option ℤ
 int_of (unsigned n) = in_64_bits (pos n)
 int_of (negative z) = in_64_bits z
@@ -30,10 +31,11 @@ abbrev mutual
   members_have_integers no_members = true
   members_have_integers (member key d ms) = has_integers d && members_have_integers ms
 
--- A key outside arrays may be no empty text, and holds no `.`, no `"` and no character below a space.
+-- What a byte of a key may be: none of `.`, of `"` and of those below a space.
 abbrev pub is_key_byte : ℕ → Bool
 is_key_byte c = nat_le 32 c && not (c == 46) && not (c == 34)
 
+-- What may be a key outside arrays: a text that is not empty, of such bytes.
 abbrev pub is_key : List ℕ → Bool
 is_key key = nat_lt 0 (length key) && list_all is_key_byte key
 

@@ -9,9 +9,11 @@ use Rattle.doc_flatten.specs.Fields.{fields_under, members_fields, with_fields}
 abbrev pub is_plain : ℕ → Data → Bool
 is_plain levels d = nat_le (depth d) levels && has_integers d
 
+-- The same of each of some items.
 abbrev pub items_are_plain : ℕ → Items → Bool
 items_are_plain levels ds = nat_le (items_depth ds) levels && items_have_integers ds
 
+-- The same of the value of each of some members.
 abbrev pub members_are_plain : ℕ → Members → Bool
 members_are_plain levels ms = nat_le (members_depth ms) levels && members_have_integers ms
 
@@ -19,6 +21,7 @@ members_are_plain levels ms = nat_le (members_depth ms) levels && members_have_i
 abbrev pub fits_in : ℕ → List ℕ → Fields → Data → Bool
 fits_in levels path doc d = is_plain levels d && has_paths path d && nat_le (length (with_fields doc (fields_under path d))) 4096
 
+-- The same of some members of one object.
 abbrev pub members_fit_in : ℕ → List ℕ → Fields → Members → Bool
 members_fit_in levels path doc ms =
     members_are_plain levels ms && members_have_paths path ms && nat_le (length (with_fields doc (members_fields path ms))) 4096

@@ -18,6 +18,7 @@ use Rattle.exec_finish.specs.Fed.{value_fed, field_fed, row_fed}
 fields_equivalence : IsEquivalence is_same_field
 fields_equivalence = and_equiv (on_equiv (λ f. f.0) nat_list_eq_equiv) (on_equiv (λ f. f.1) (eq_by_cmp_equiv (on_total Some IsTotalOrder-total_order)))
 
+-- Being alike is an equivalence.
 pub is_alike_equivalence : IsEquivalence is_alike
 is_alike_equivalence = and_equiv (on_equiv (λ r. r.items) (lists_equiv (eq_by_cmp_equiv IsTotalOrder-total_order))) (on_equiv (λ r. r.doc) (options_equiv (lists_equiv fields_equivalence)))
 
@@ -54,6 +55,7 @@ docs_decide (Some a) (Some b) =
     let d = pointwise_decides fields_decide a b in
     (λ e. ap Some (d.0 e), λ e. d.1 (ap (λ o. unwrap_or o a) e))
 
+-- Rows are alike exactly where their items and their documents are equal.
 pub alike_decides : (r s : Output) → Decides (is_alike r s) ((r.items ≡ s.items) × (r.doc ≡ s.doc))
 alike_decides r s =
     let items = pointwise_decides items_decide r.items s.items in
@@ -64,6 +66,7 @@ alike_decides r s =
 
 -- ---- rows that are alike are fed alike
 
+-- Rows that are alike feed a hasher the same.
 pub fed_alike : (r s : Output) → is_alike r s ≡ true → row_fed r ≡ row_fed s
 fed_alike r s e =
     let same = (alike_decides r s).0 e in

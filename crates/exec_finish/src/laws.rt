@@ -10,7 +10,7 @@ ghost use Rattle.exec_finish.specs.Lines.{IsLines, HasOneLineValues};
 
 use doc_values::printed_values_are_one_line;
 
-/// Every answer is whole lines, none of which begins with a mark.
+/// An answer whose arrays keep to their lines is whole lines, none of which begins with a mark.
 pub fn answers_are_lines()
     ensures text { (star : Bool) (rows : List Output) → All HasOneLineValues rows → IsLines (answer_text star rows) }
     ensures finished { (is_distinct : Bool) (descending : List Bool) (limit : Option ℕ) (star : Bool) (rows : List Output) → All HasOneLineValues rows → IsLines (finished is_distinct descending limit star rows) }

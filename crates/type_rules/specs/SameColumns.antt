@@ -42,6 +42,7 @@ want_congr (Some k) (Some j) (Some i) h = nat_eq_equiv.congr (rank k) (rank j) (
 want_equiv : IsEquivalence same_want
 want_equiv = record { refl = want_refl; symm = want_symm; congr = want_congr }
 
+-- Not being told apart is an equivalence.
 pub columns_equiv : IsEquivalence same_column
 columns_equiv = and_equiv (on_equiv (λ (c : ColRef). c.name) nat_list_eq_equiv) (on_equiv (λ (c : ColRef). c.want) want_equiv)
 
