@@ -14,7 +14,7 @@ use Rattle.attr_catalog.specs.Catalog.{most_attributes, most_versions}
 abbrev pub most_collections : ℕ
 most_collections = 256
 
--- The most that a document weighs: 16 bytes for each byte of the text that loads it.
+-- The most that a document weighs: 16 bytes for each of the 1,048,576 bytes that the text of a load may have.
 abbrev pub most_weight : ℕ
 most_weight = 16777216
 

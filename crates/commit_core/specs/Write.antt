@@ -13,7 +13,7 @@ use Rattle.commit_core.specs.State.{Row, Collection, State, is_named, collection
 pub data Write : Type 0 where
   loads : List ℕ → List Fields → Write
 
--- What becomes of a write: it is accepted, with the state after it and a number of rows; or a number leaves its range; or the store is full.
+-- What becomes of a write: it is accepted, with the state after it and a number of rows; or a number leaves its range, which no load does; or the store is full.
 pub data Effect : Type 0 where
   accepted : State → ℕ → Effect
   range : Effect
