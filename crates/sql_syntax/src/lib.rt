@@ -1,7 +1,8 @@
 //! The text of a statement: what is printed of each statement that a text spells, beside the grammar that reads it.
 //!
-//! Its one promise is that what `print` writes spells the statement again. It knows nothing of documents, of kinds that
-//! fit, or of what a statement means; the grammar itself is `sql_grammar`'s, whose calls are handed on here.
+//! Its one promise is that what `print` writes spells the statement again, where some text spells it and what is written
+//! is not too long for a text. It knows nothing of documents, of kinds that fit, or of what a statement means; the grammar
+//! itself is `sql_grammar`'s, whose calls are handed on here.
 //! Read `specs/PrintingText.antt` first, then `specs/PrintingQuery.antt` and `specs/PrintingTerm.antt`.
 #![tactic(auto)]
 

@@ -12,7 +12,7 @@ use sql_tree::{Set, Statement, Term};
 use std::alloc::AllocError;
 
 /// Appends the text of a statement: keywords in capitals, single spaces, and no brackets that could be left out. It reads
-/// as the statement again where some text spells it.
+/// as the statement again where some text spells that and what is printed has at most 1,048,576 bytes.
 pub fn print(statement: &Statement, out: &mut Vec<u8>) -> Result<(), AllocError>
     ensures ok { OnOk result (out.new.items ≡ out.old.items ++ statement_printed statement.now) }
     ensures memory { OnErr result (out.new.items ≡ out.old.items) }

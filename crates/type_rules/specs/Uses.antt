@@ -43,7 +43,7 @@ abbrev pub among_uses : Option Kind → Reader → List Reader → List Use
 among_uses (Some k) p ps = p.uses None ++ flat_map (uses_beside (Some k)) ps
 among_uses None p ps = flat_map (pair_uses p) ps
 
--- One level of a term where a kind is wanted of it, or none: its references, in the order of the text.
+-- One level of a term where a kind is wanted of it, or none: its references, in the order of the text, what stands for several comparisons once for each that wants a kind of its own.
 abbrev pub uses_step : Term-F Reader (List Use) → Option Kind → List Use
 uses_step (Term-F.Column r) want = record { ref = r; want = want } ∷ []
 uses_step (Term-F.Wanted k r) want = record { ref = r; want = Some k } ∷ []
@@ -85,7 +85,7 @@ addend_uses = fold-Addend Reader (List Use) reader_step reader_addend
 abbrev pub place_uses : Place → List Use
 place_uses p = (reader_of p.term).uses p.want
 
--- All references of a question, in the order of the text.
+-- All references of a question, in the order of its places.
 abbrev pub uses_of : Select → List Use
 uses_of s = flat_map place_uses (places_of s)
 

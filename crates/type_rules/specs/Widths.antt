@@ -9,7 +9,7 @@ use Rattle.sql_tree.specs.declared.term.Term.TheFolds.{fold-Term, fold-Addend}
 use Rattle.sql_eval.specs.Widths.{Width, over, sum_bits, sum_bits_from, bits_of, aggregate_bits}
 use Rattle.type_rules.specs.Places.{places_of}
 
--- One level of a term over so many tables: the bits of the numbers that it may give, 0 where it can give none, and whether it and each of its parts need at most 126.
+-- One level of a term over so many tables: the bits of the numbers that it may give, those of every reference being 63 and of what is neither a reference nor NULL nor a number 0, and whether it and each of its parts need at most 126.
 abbrev pub term_step : ℕ → Term-F Width Width → Width
 term_step tables (Term-F.Number n) = over 63 []
 term_step tables Term-F.Null = over 63 []

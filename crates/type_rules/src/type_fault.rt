@@ -2,7 +2,8 @@ ghost use Rattle.std.specs.Prelude.{◌≡◌};
 
 use std::alloc::AllocError;
 
-/// Why a statement has no plan: the first rule that it breaks, or want of memory.
+/// Why a statement has no plan: the first rule that it breaks, or want of memory, which also stands for a question that
+/// reads more than 2 to the 32 columns. No text spells one.
 #[derive(Clone, Copy, Debug, PartialEq, Eq)]
 pub enum TypeFault {
     Name,
