@@ -1,0 +1,4 @@
+pub mod StateLemmas
+pub mod CommitLemmas
+pub mod RunLemmas
+pub mod EndLemmas

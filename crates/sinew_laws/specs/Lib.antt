@@ -1,0 +1,4 @@
+pub mod States
+pub mod Commits
+pub mod Runs
+pub mod Ends
