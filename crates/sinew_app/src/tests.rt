@@ -122,6 +122,23 @@ fn other_bytes_are_refused(rt: HostRuntime) -> Result<(), Fail> {
     runs(&rt, &mut source, Status::Script, b"? script 0 size\n")
 }
 
+/// Runs a script over devices, and compares the status, all that was written and the number of commits.
+fn leaves<R: Abort + AllocGlobal>(
+    rt: &R,
+    source: &mut MemSource,
+    sink: &mut MemSink,
+    status: Status,
+    output: &[u8],
+    commits: u64,
+) -> Result<(), Fail> {
+    let mut store = Core::new(rt.alloc());
+    let ended = sinew_serial(rt.alloc(), Settings::usual(), &mut store, source, sink);
+    assert_eq!(rt; ended, status);
+    assert_eq!(rt; sink.bytes(), output);
+    assert_eq!(rt; store.now(), commits);
+    Ok(())
+}
+
 /// Runs the smallest script over devices that fail at one call each: 8 bytes a read, 4 bytes a write.
 fn fails<R: Abort + AllocGlobal>(
     rt: &R,
@@ -133,25 +150,27 @@ fn fails<R: Abort + AllocGlobal>(
 ) -> Result<(), Fail> {
     let reads = Calls::from_vec(vec![in rt.alloc(); read]?);
     let writes = Calls::from_vec(vec![in rt.alloc(); write]?);
-    let mut store = Core::new(rt.alloc());
     let script = Bytes::from_vec(SMALLEST.to_vec(rt.alloc())?);
     let mut source = MemSource::new(script, 8, reads);
     let mut sink = MemSink::new(rt.alloc(), 100, 4, writes)?;
-    let ended = sinew_serial(
-        rt.alloc(),
-        Settings::usual(),
-        &mut store,
-        &mut source,
-        &mut sink,
-    );
-    assert_eq!(rt;
-        ended,
-        status,
-        "reading fails at {read}, writing at {write}"
-    );
-    assert_eq!(rt; sink.bytes(), output);
-    assert_eq!(rt; store.now(), commits);
-    Ok(())
+    leaves(rt, &mut source, &mut sink, status, output, commits)
+}
+
+/// Runs a script over a sink that takes one byte a write and fails at one of them.
+fn breaks_off<R: Abort + AllocGlobal>(
+    rt: &R,
+    script: &[u8],
+    write: u64,
+    status: Status,
+    output: &[u8],
+    commits: u64,
+) -> Result<(), Fail> {
+    let reads = Calls::from_vec(Vec::new(rt.alloc()));
+    let writes = Calls::from_vec(vec![in rt.alloc(); write]?);
+    let script = Bytes::from_vec(script.to_vec(rt.alloc())?);
+    let mut source = MemSource::new(script, 8, reads);
+    let mut sink = MemSink::new(rt.alloc(), 100, 1, writes)?;
+    leaves(rt, &mut source, &mut sink, status, output, commits)
 }
 
 #[test]
@@ -166,6 +185,21 @@ fn a_failing_device_ends_a_run(rt: HostRuntime) -> Result<(), Fail> {
         fails(&rt, 7, u64::from(write), Status::Write, kept, 1)?;
     }
     fails(&rt, 7, 12, Status::Done, PRINTED, 1)
+}
+
+#[test]
+fn each_byte_may_be_wanting(rt: HostRuntime) -> Result<(), Fail> {
+    let refusal = b"? script 1 session\n";
+    for write in 1..=19u8 {
+        let kept = refusal
+            .get(..usize::from(write) - 1)
+            .ok_or("there are 19 bytes")?;
+        breaks_off(&rt, b"x", u64::from(write), Status::Write, kept, 0)?;
+    }
+    breaks_off(&rt, b"x", 20, Status::Script, refusal, 0)?;
+    let kept = PRINTED.get(..41).ok_or("there are 42 bytes")?;
+    breaks_off(&rt, SMALLEST, 42, Status::Write, kept, 1)?;
+    breaks_off(&rt, SMALLEST, 43, Status::Done, PRINTED, 1)
 }
 
 #[test]
