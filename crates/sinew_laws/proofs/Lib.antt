@@ -1,4 +1,5 @@
 pub mod StateLemmas
 pub mod CommitLemmas
 pub mod RunLemmas
+pub mod EndInputs
 pub mod EndLemmas

@@ -1,1 +1,23 @@
--- Laws.
+-- What a write leaves, and what a reading holds.
+use Rattle.std.specs.Prelude.{◌≡◌, ℕ, List, Some}
+use Rattle.sql_eval.specs.Contents.{Cells}
+use Rattle.commit_core.specs.Plan.{plan_of}
+use Rattle.commit_core.specs.Commits.{IsWrite}
+use Rattle.commit_core.specs.Agreement.{ReadingOf, Agrees, sort_of}
+use Rattle.commit_core.specs.declared.entry.Entry.{Entry}
+use Rattle.commit_core.specs.declared.reply.Reply.{Reply}
+use Rattle.commit_core.specs.declared.prepared_sort.PreparedSort.TheVariants as sort
+
+-- A write leaves one thing: one list of commits, and one reply.
+abbrev pub LeavesOneThing : Type 0
+LeavesOneThing = (caller : ℕ) (text : List ℕ) (old one other : List Entry) (first second : Reply) →
+    IsWrite caller text old one first → IsWrite caller text old other second → (one ≡ other) × (first ≡ second)
+
+-- Readings of one text at one number that agree with the same commits have read the same.
+abbrev pub HoldsOneThing : Type 0
+HoldsOneThing = (a b : ReadingOf) (texts : List (List ℕ)) (one other : List Cells) → Agrees a texts → Agrees b texts →
+    a.text ≡ b.text → a.at ≡ b.at → a.rows ≡ Some one → b.rows ≡ Some other → one ≡ other
+
+-- A reading that agrees with commits is one of a question.
+abbrev pub IsOfAQuestion : Type 0
+IsOfAQuestion = (reading : ReadingOf) (texts : List (List ℕ)) → Agrees reading texts → sort_of (plan_of reading.text) ≡ sort.Read

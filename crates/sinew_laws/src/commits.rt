@@ -1,1 +1,17 @@
-// Laws.
+// Laws of writes and readings.
+ghost use Rattle.sinew_laws.specs.Commits.{HoldsOneThing, IsOfAQuestion, LeavesOneThing};
+
+/// Law: a write leaves one list of commits, and one reply.
+pub fn a_write_leaves_one_thing()
+    ensures { LeavesOneThing }
+{}
+
+/// Law: readings of one text at one number that agree with the same commits have read the same.
+pub fn readings_of_one_number_hold_one_thing()
+    ensures { HoldsOneThing }
+{}
+
+/// Law: a reading that agrees with commits is one of a question.
+pub fn readings_are_of_questions()
+    ensures { IsOfAQuestion }
+{}

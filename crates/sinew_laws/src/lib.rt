@@ -9,3 +9,14 @@ mod commits;
 mod ends;
 mod runs;
 mod states;
+
+pub use commits::{
+    a_write_leaves_one_thing, readings_are_of_questions, readings_of_one_number_hold_one_thing,
+};
+pub use ends::{
+    a_broken_run_leaves_its_commits, a_broken_text_is_not_whole, a_decision_is_no_failure,
+    a_done_run_leaves_one_thing, a_refusal_leaves_one_thing, what_is_unwritten_leaves_all,
+};
+pub use runs::{
+    commits_are_accepted_writes, numbers_are_those_of_commits, sessions_keep_their_order,
+};

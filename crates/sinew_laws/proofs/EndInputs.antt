@@ -1,0 +1,86 @@
+-- What was read of a source that tells its bytes, and what it is: one input, a script or none, with one run.
+use Rattle.std.proofs.Common.{◌≡◌, ℕ, ◌+◌, ◌≤◌, List, [], ◌∷◌, ◌++◌, length, take, Option, Some, Result, Ok, Err, ◌⊎◌, inl, inr, refl, sym, ap, ◌∙◌, subst, arith}
+use Rattle.std.proofs.lemmas.List.{append-nil, length-append, length-take-le}
+use Rattle.script_reader.specs.Script.{script_of, most_script_bytes}
+use Rattle.script_reader.specs.declared.line.Line.{Line}
+use Rattle.script_reader.specs.declared.script_fault.ScriptFault.{ScriptFault}
+use Rattle.commit_core.specs.Commits.{texts_of}
+use Rattle.commit_core.specs.declared.entry.Entry.{Entry}
+use Rattle.sinew_app.specs.Laws.{HasOneSerialRun}
+use Rattle.sinew_app.specs.Outcome.{WasRead, WasRun, TookFront}
+use Rattle.sinew_app.specs.Printing.{printing}
+use Rattle.sinew_app.specs.Run.{Run, IsSerial, texts_at}
+use Rattle.sinew_app.proofs.Ends.{all_bad}
+
+-- ---- what bytes are
+
+pub one_script : (r : Result (List Line) ScriptFault) (a b : List Line) → r ≡ Ok a → r ≡ Ok b → a ≡ b
+one_script (Ok lines) a b e f = cc
+one_script (Err fault) a b e f = absurd (cc)
+
+pub one_fault : (r : Result (List Line) ScriptFault) (a b : ScriptFault) → r ≡ Err a → r ≡ Err b → a ≡ b
+one_fault (Ok lines) a b e f = absurd (cc)
+one_fault (Err fault) a b e f = cc
+
+script_or_fault : (r : Result (List Line) ScriptFault) (lines : List Line) (fault : ScriptFault) → r ≡ Ok lines → r ≡ Err fault → ⊥
+script_or_fault (Ok lines) a fault e f = absurd (cc)
+script_or_fault (Err fault) a b e f = absurd (cc)
+
+-- ---- what was read
+
+-- Where nothing is left all was given.
+pub all_given : (left after input : List ℕ) → left ≡ input ++ after → after ≡ [] → left ≡ input
+all_given left after input gave none = gave ∙ (ap (λ (rest : List ℕ). input ++ rest) none ∙ append-nil input)
+
+-- Two fronts of one length are one, and so is what is behind them.
+pub one_front : (a b x y : List ℕ) → length a ≡ length b → a ++ x ≡ b ++ y → (a ≡ b) × (x ≡ y)
+one_front [] [] x y l e = (refl, e)
+one_front [] (q ∷ b) x y l e = absurd (omega arith)
+one_front (p ∷ a) [] x y l e = absurd (omega arith)
+one_front (p ∷ a) (q ∷ b) x y l e =
+    let rest = one_front a b x y (omega arith) (cc) in
+    (cc, rest.1)
+
+-- One of two readings ended below the limit, the other above it.
+cannot : (a b x : List ℕ) → length a ≤ most_script_bytes → length b ≡ most_script_bytes + 1 → a ≡ b ++ x → ⊥
+cannot a b x few many e = omega (arith, few, many, ap (λ (l : List ℕ). length l) e, length-append b x)
+
+-- The input has all that there was, within the limit, or is one byte longer than that.
+abbrev Ended : List ℕ → List ℕ → Type 0
+Ended input after = ((length input ≤ most_script_bytes) × (after ≡ [])) ⊎ (length input ≡ most_script_bytes + 1)
+
+one_input : (left a b x y : List ℕ) → left ≡ a ++ x → left ≡ b ++ y → Ended a x → Ended b y → (a ≡ b) × (x ≡ y)
+one_input left a b x y ga gb (inl short) (inl also) = (sym (all_given left x a ga short.1) ∙ all_given left y b gb also.1, short.1 ∙ sym also.1)
+one_input left a b x y ga gb (inl short) (inr long) = absurd (cannot a b y short.0 long (sym (all_given left x a ga short.1) ∙ gb))
+one_input left a b x y ga gb (inr long) (inl short) = absurd (cannot b a x short.0 long (sym (all_given left y b gb short.1) ∙ ga))
+one_input left a b x y ga gb (inr long) (inr also) = one_front a b x y (long ∙ sym also) (sym ga ∙ gb)
+
+-- Two readings of one source read one input and leave the same.
+pub one_reading : (left a b x y : List ℕ) → WasRead (Some left) (Some x) a → WasRead (Some left) (Some y) b → (a ≡ b) × (x ≡ y)
+one_reading left a b x y ra rb = one_input left a b x y ra.gave rb.gave ra.whole rb.whole
+
+-- A script that was read to its end was not read as bytes that are none.
+pub never_both : (left input bytes : List ℕ) (after : Option (List ℕ)) (lines : List Line) (fault : ScriptFault) → left ≡ input →
+    script_of input ≡ Ok lines → WasRead (Some left) after bytes → script_of bytes ≡ Err fault → ⊥
+never_both left input bytes after lines fault same script read bad =
+    script_or_fault (script_of left) lines fault (ap script_of same ∙ script) (all_bad left after fault bytes read bad)
+
+-- ---- what was run and written
+
+-- An input has one run: it prints one text, and its store has one list of texts.
+pub runs_alike : ((lines : List Line) → HasOneSerialRun lines) → (input : List ℕ) (la lb : List Line) (ra rb : Run) (one other : List Entry) →
+    WasRun input la ra one → WasRun input lb rb other → (printing la ra ≡ printing lb rb) × (texts_of one ≡ texts_of other)
+runs_alike law input la lb ra rb one other a b =
+    let lines : la ≡ lb = one_script (script_of input) la lb a.script b.script in
+    let run : ra ≡ rb = law lb ra rb (subst (λ (ls : List Line). IsSerial ls ra) lines a.serial) b.serial in (
+      ap (λ (ls : List Line). printing ls ra) lines ∙ ap (λ (r : Run). printing lb r) run,
+      a.store ∙ (ap (λ (ls : List Line). texts_at ls ra.order) lines ∙ (ap (λ (r : Run). texts_at lb r.order) run ∙ sym b.store)),
+    )
+
+-- What a sink took of a text whose writing broke off is not the text.
+pub no_whole : (before after output : List ℕ) → TookFront (Some before) (Some after) output → after ≡ before ++ output → ⊥
+no_whole before after output front whole =
+    let n = front.0 in
+    let short : length (take n output) ≡ n = length-take-le n output (omega (arith, front.1)) in
+    let same : length (before ++ take n output) ≡ length (before ++ output) = ap (λ (bytes : List ℕ). length bytes) (sym front.2 ∙ whole) in
+    omega (arith, front.1, short, same, length-append before (take n output), length-append before output)
