@@ -40,7 +40,7 @@ pub record IsStored (document : Fields) (bytes : List ℕ) (pair : List ℕ × K
 abbrev pub IsHeld : Pairs → Fields → Field → Type 0
 IsHeld pairs document field = MatchOption (slice_get pairs field.id) ⊥ (IsStored document field.bytes)
 
--- The document that fields stand for holds each of them, so no name stands twice.
+-- The document that fields stand for holds each of them; so no name stands twice, where each pair has one number.
 abbrev pub IsKept : Pairs → List Field → Type 0
 IsKept pairs fields = All (IsHeld pairs (document_stored pairs fields)) fields
 
