@@ -39,7 +39,7 @@ same_kinds kind.Array kind.Array e = refl
 same_kinds kind.Object kind.Object e = refl
 same_kinds a b e = absurd (false≢true e)
 
-same_pairs : (a b : List ℕ × Kind) → same_pair a b ≡ true → a ≡ b
+pub same_pairs : (a b : List ℕ × Kind) → same_pair a b ≡ true → a ≡ b
 same_pairs a b e =
     let parts = both (bytes_eq a.0 b.0) (same_kind a.1 b.1) e in
     let name : a.0 ≡ b.0 = (bytes_eq-Decides a.0 b.0).0 parts.0 in

@@ -24,7 +24,7 @@ same_kind-self kind.Text = refl
 same_kind-self kind.Array = refl
 same_kind-self kind.Object = refl
 
-same_pair-self : (pair : List ℕ × Kind) → same_pair pair pair ≡ true
+pub same_pair-self : (pair : List ℕ × Kind) → same_pair pair pair ≡ true
 same_pair-self pair = and_from _ _ ((bytes_eq-Decides pair.0 pair.0).1 refl) (same_kind-self pair.1)
 
 -- A pair that is among none is told apart from each.

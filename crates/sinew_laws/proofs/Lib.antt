@@ -1,4 +1,5 @@
 pub mod StateLemmas
+pub mod StateRows
 pub mod CommitLemmas
 pub mod RunLemmas
 pub mod EndInputs

@@ -20,3 +20,7 @@ pub use ends::{
 pub use runs::{
     commits_are_accepted_writes, numbers_are_those_of_commits, sessions_keep_their_order,
 };
+pub use states::{
+    documents_have_their_pairs, names_find_their_collections, pairs_are_told_apart,
+    rows_are_numbered_from_zero, rows_are_told_apart, states_are_small, what_stands_is_a_document,
+};
