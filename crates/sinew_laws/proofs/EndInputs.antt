@@ -1,6 +1,6 @@
 -- What was read of a source that tells its bytes, and what it is: one input, a script or none, with one run.
-use Rattle.std.proofs.Common.{◌≡◌, ℕ, ◌+◌, ◌≤◌, List, [], ◌∷◌, ◌++◌, length, take, Option, Some, Result, Ok, Err, ◌⊎◌, inl, inr, refl, sym, ap, ◌∙◌, subst, arith}
-use Rattle.std.proofs.lemmas.List.{append-nil, length-append, length-take-le}
+use Rattle.std.proofs.Common.{◌≡◌, ◌≢◌, ℕ, ◌+◌, ◌≤◌, List, [], ◌∷◌, ◌++◌, length, take, drop, Option, Some, Result, Ok, Err, ◌⊎◌, inl, inr, refl, sym, ap, ◌∙◌, subst, arith}
+use Rattle.std.proofs.lemmas.List.{append-nil, length-append, length-take-le, append_assoc, take-append-drop}
 use Rattle.script_reader.specs.Script.{script_of, most_script_bytes}
 use Rattle.script_reader.specs.declared.line.Line.{Line}
 use Rattle.script_reader.specs.declared.script_fault.ScriptFault.{ScriptFault}
@@ -77,10 +77,20 @@ runs_alike law input la lb ra rb one other a b =
       a.store ∙ (ap (λ (ls : List Line). texts_at ls ra.order) lines ∙ (ap (λ (r : Run). texts_at lb r.order) run ∙ sym b.store)),
     )
 
--- What a sink took of a text whose writing broke off is not the text.
-pub no_whole : (before after output : List ℕ) → TookFront (Some before) (Some after) output → after ≡ before ++ output → ⊥
-no_whole before after output front whole =
+-- Behind fewer than all bytes of an output there are some.
+some_left : (n : ℕ) (output : List ℕ) → n + 1 ≤ length output → drop n output ≢ []
+some_left n output few none =
+    let parts : length output ≡ length (take n output) + length (drop n output) =
+    ap (λ (bytes : List ℕ). length bytes) (sym (take-append-drop n output)) ∙ length-append (take n output) (drop n output) in
+    let short : length (take n output) ≡ n = length-take-le n output (omega (arith, few)) in
+    let empty : length (drop n output) ≡ 0 = ap (λ (bytes : List ℕ). length bytes) none in
+    omega (arith, few, parts, short, empty)
+
+-- What a sink took of a text whose writing broke off is a front of what it takes of the text, and not all of that.
+pub a_front : (before one other output : List ℕ) → TookFront (Some before) (Some one) output → other ≡ before ++ output → (rest : List ℕ) × (other ≡ one ++ rest) × (rest ≢ [])
+a_front before one other output front whole =
     let n = front.0 in
-    let short : length (take n output) ≡ n = length-take-le n output (omega (arith, front.1)) in
-    let same : length (before ++ take n output) ≡ length (before ++ output) = ap (λ (bytes : List ℕ). length bytes) (sym front.2 ∙ whole) in
-    omega (arith, front.1, short, same, length-append before (take n output), length-append before output)
+    let joined : other ≡ (before ++ take n output) ++ drop n output =
+    whole ∙ (ap (λ (bytes : List ℕ). before ++ bytes) (sym (take-append-drop n output)) ∙ sym (append_assoc before (take n output) (drop n output))) in
+    let behind : other ≡ one ++ drop n output = joined ∙ ap (λ (bytes : List ℕ). bytes ++ drop n output) (sym front.2) in
+    (drop n output, behind, some_left n output front.1)

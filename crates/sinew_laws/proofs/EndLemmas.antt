@@ -1,5 +1,5 @@
 -- How a run ends, and how no other run of its input does.
-use Rattle.std.proofs.Common.{◌≡◌, ◌≢◌, ℕ, List, ◌++◌, Some, Err, ◌⊎◌, ⊎_elim, sym, ap, ◌∙◌, subst}
+use Rattle.std.proofs.Common.{◌≡◌, ◌≢◌, ℕ, List, [], ◌++◌, Some, Err, ◌⊎◌, ⊎_elim, sym, ap, ◌∙◌, subst}
 use Rattle.script_reader.specs.Script.{script_of}
 use Rattle.script_reader.specs.declared.line.Line.{Line}
 use Rattle.script_reader.specs.declared.script_fault.ScriptFault.{ScriptFault}
@@ -12,7 +12,7 @@ use Rattle.sinew_app.specs.Run.{Run}
 use Rattle.sinew_app.specs.declared.status.Status.{Status}
 use Rattle.sinew_app.specs.declared.status.Status.TheVariants as status_of
 use Rattle.sinew_laws.specs.Ends.{LeavesOneEnd, LeavesOneRefusal, LeavesItsCommits}
-use Rattle.sinew_laws.proofs.EndInputs.{one_fault, all_given, one_reading, never_both, runs_alike, no_whole}
+use Rattle.sinew_laws.proofs.EndInputs.{one_fault, all_given, one_reading, never_both, runs_alike, a_front}
 
 -- ---- done or refused, twice
 
@@ -39,24 +39,26 @@ one_refusal left taken la lb ta tb one other a b =
 
 -- ---- broken off
 
-pub not_done : ((lines : List Line) → HasOneSerialRun lines) → (left left_after taken taken_after : List ℕ) (commits : List Entry) →
-    IsBroken (Some left) (Some left_after) (Some taken) (Some taken_after) commits → IsDone (Some left) (Some left_after) (Some taken) (Some taken_after) commits → ⊥
-not_done law left la taken ta commits (in_printing input lines run gave none ran front) done =
-    let of-a = run_of left input lines run commits (all_given left la input gave none) ran in
-    let of-b = run_of left done.input done.lines done.run commits (all_given left la done.input done.gave done.whole) done.ran in
-    let same = runs_alike law left lines done.lines run done.run commits commits of-a of-b in
-    no_whole taken ta (printing lines run) front (done.took ∙ ap (λ (bytes : List ℕ). taken ++ bytes) (sym same.0))
-not_done law left la taken ta commits (in_refusal input fault read bad front none) done =
-    never_both left done.input input (Some la) done.lines fault (all_given left la done.input done.gave done.whole) done.ran.script read bad
+pub front_of_done : ((lines : List Line) → HasOneSerialRun lines) → (left taken left_one left_other taken_one taken_other : List ℕ) (one other : List Entry) →
+    IsBroken (Some left) (Some left_one) (Some taken) (Some taken_one) one → IsDone (Some left) (Some left_other) (Some taken) (Some taken_other) other →
+    ((rest : List ℕ) × (taken_other ≡ taken_one ++ rest) × (rest ≢ [])) × (texts_of one ≡ texts_of other)
+front_of_done law left taken la lb ta tb one other (in_printing input lines run gave none ran front) done =
+    let of-a = run_of left input lines run one (all_given left la input gave none) ran in
+    let of-b = run_of left done.input done.lines done.run other (all_given left lb done.input done.gave done.whole) done.ran in
+    let same = runs_alike law left lines done.lines run done.run one other of-a of-b in
+    (a_front taken ta tb (printing lines run) front (done.took ∙ ap (λ (bytes : List ℕ). taken ++ bytes) (sym same.0)), same.1)
+front_of_done law left taken la lb ta tb one other (in_refusal input fault read bad front none) done =
+    absurd (never_both left done.input input (Some la) done.lines fault (all_given left lb done.input done.gave done.whole) done.ran.script read bad)
 
-pub not_refused : (left left_after taken taken_after : List ℕ) (commits : List Entry) →
-    IsBroken (Some left) (Some left_after) (Some taken) (Some taken_after) commits → IsRefused (Some left) (Some left_after) (Some taken) (Some taken_after) commits → ⊥
-not_refused left la taken ta commits (in_printing input lines run gave none ran front) refused =
-    never_both left input refused.input (Some la) lines refused.fault (all_given left la input gave none) ran.script refused.read refused.bad
-not_refused left la taken ta commits (in_refusal input fault read bad front none) refused =
-    let same = one_reading left input refused.input la la read refused.read in
+pub front_of_refused : (left taken left_one left_other taken_one taken_other : List ℕ) (one other : List Entry) →
+    IsBroken (Some left) (Some left_one) (Some taken) (Some taken_one) one → IsRefused (Some left) (Some left_other) (Some taken) (Some taken_other) other →
+    ((rest : List ℕ) × (taken_other ≡ taken_one ++ rest) × (rest ≢ [])) × (texts_of one ≡ texts_of other)
+front_of_refused left taken la lb ta tb one other (in_printing input lines run gave none ran front) refused =
+    absurd (never_both left input refused.input (Some lb) lines refused.fault (all_given left la input gave none) ran.script refused.read refused.bad)
+front_of_refused left taken la lb ta tb one other (in_refusal input fault read bad front none) refused =
+    let same = one_reading left input refused.input la lb read refused.read in
     let fault-is : refused.fault ≡ fault = refused_alike refused.input input refused.fault fault (sym same.0) refused.bad bad in
-    no_whole taken ta (refusal_text fault) front (refused.took ∙ ap (λ (f : ScriptFault). taken ++ refusal_text f) fault-is)
+    (a_front taken ta tb (refusal_text fault) front (refused.took ∙ ap (λ (f : ScriptFault). taken ++ refusal_text f) fault-is), ap texts_of (none ∙ sym refused.store))
 
 pub one_break : ((lines : List Line) → HasOneSerialRun lines) → LeavesItsCommits
 one_break law left la lb taken ta tb one other (in_printing a lines-a run-a gave-a none-a ran-a front-a) (in_printing b lines-b run-b gave-b none-b ran-b front-b) =

@@ -4,3 +4,5 @@ pub mod CommitLemmas
 pub mod RunLemmas
 pub mod EndInputs
 pub mod EndLemmas
+pub mod MarkLemmas
+pub mod KindLemmas

@@ -127,3 +127,17 @@ module _ (lines : List Line) (rules : IsScript lines) (run : Run) (legal : IsLeg
   pub never_falls : (j k : ℕ) (upper lower : Line) (before after : Reply) → j ≤ k → slice_get lines j ≡ Some upper → slice_get lines k ≡ Some lower → upper.session ≡ lower.session →
       slice_get run.answers j ≡ Some before → slice_get run.answers k ≡ Some after → before.at ≤ after.at
   never_falls j k upper lower before after = in_session (suc k) j k upper lower before after (omega arith)
+
+  -- Of two commits of one session the upper line is the earlier one.
+  pub keeps_sessions : (i j above below : ℕ) (upper lower : Line) → above < below → slice_get lines above ≡ Some upper → slice_get lines below ≡ Some lower → upper.session ≡ lower.session →
+      slice_get run.order i ≡ Some above → slice_get run.order j ≡ Some below → i < j
+  keeps_sessions i j above below upper lower order at-above at-below same at-i at-j =
+      let numbers : i + 1 ≤ j + 1 =
+      never_falls above below upper lower (reply_at (i + 1) (told_by_line lines run.order i above)) (reply_at (j + 1) (told_by_line lines run.order j below))
+      (omega (arith, order)) at-above at-below same (legal.committed i above at-i).0 (legal.committed j below at-j).0 in
+      ⊎_elim
+      (λ one.
+      let alike : above ≡ below = same_Some above below (sym at-i ∙ (ap (λ (k : ℕ). slice_get run.order k) one ∙ at-j)) in
+      absurd (omega (arith, order, alike)))
+      (λ differ. omega (arith, numbers, differ))
+      (cases_eq i j)

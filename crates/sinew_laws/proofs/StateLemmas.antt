@@ -16,7 +16,7 @@ use Rattle.commit_core.specs.State.{Row, Collection, State, pair_of, is_named, c
 use Rattle.commit_core.specs.Write.{same_pair, with_pair, with_fields}
 use Rattle.commit_core.proofs.PairsOnce.{same_pair-self}
 use Rattle.commit_core.proofs.PairsHeld.{same_pairs}
-use Rattle.sinew_laws.specs.States.{IsAMap, IsSmall, HasOnePlaceForAPair, WhatStandsIsADocument, HasPairsOfAllFields}
+use Rattle.sinew_laws.specs.States.{IsAMap, KeepsItsLimits, HasOnePlaceForAPair, WhatStandsIsADocument, HasPairsOfAllFields}
 
 -- ---- names
 
@@ -42,7 +42,7 @@ is_a_map state i collection h e = found state i collection h.names e
 -- ---- limits
 
 -- The limits of a state are these numbers.
-pub is_small : IsSmall
+pub is_small : KeepsItsLimits
 is_small state i collection h e = let one = h.each i collection e in (h.few, one.few_pairs, one.few_versions)
 
 -- ---- pairs

@@ -2,7 +2,7 @@
 use Rattle.std.proofs.Common.{◌≡◌, ◌⊎◌, inl, inr, ℕ, zero, suc, ◌+◌, ◌<◌, List, [], ◌∷◌, ◌++◌, length, fold, Some, refl, sym, ap, ◌∙◌, subst, arith, length-append}
 use Rattle.std.specs.Prelude.{slice_get}
 use Rattle.std.specs.List.{AllByRecursion as EachIs, position_or_len}
-use Rattle.std.proofs.lemmas.Bool.{cases_order, cond_both}
+use Rattle.std.proofs.lemmas.Bool.{cond_both}
 use Rattle.std.proofs.lemmas.List.Folds.{find_at}
 use Rattle.std.proofs.lemmas.Option.{same_Some}
 use Rattle.doc_values.specs.Doc.{Fields}
@@ -10,7 +10,7 @@ use Rattle.commit_core.specs.State.{Row, Collection, State, IsCollection, openin
 use Rattle.commit_core.specs.Write.{Effect, accepted, full, loads, rows_from, new_collection, with_documents, with_load, is_full}
 use Rattle.commit_core.specs.Plan.{Plan, refused, read, write, plan_of}
 use Rattle.commit_core.specs.Replies.{next_state, state_left, state_behind, state_after}
-use Rattle.sinew_laws.specs.States.{KeepsRowsApart, NumbersRowsFromZero}
+use Rattle.sinew_laws.specs.States.{NumbersRowsFromZero}
 
 -- ---- rows of a load
 
@@ -37,7 +37,7 @@ place_of (r ∷ rows) next documents (suc i) row e =
 -- ---- rows of a collection
 
 -- The numbers ascend, whatever was put behind the rows.
-ascends : (documents : List Fields) (collection : Collection) → IsCollection collection → (i j : ℕ) (a b : Row) → i < j
+pub ascends : (documents : List Fields) (collection : Collection) → IsCollection collection → (i j : ℕ) (a b : Row) → i < j
     → slice_get (with_documents documents collection).rows i ≡ Some a → slice_get (with_documents documents collection).rows j ≡ Some b → a.number < b.number
 ascends documents collection h i j a b l e f =
     elim (place_of collection.rows collection.next_row documents i a e) [
@@ -48,17 +48,6 @@ ascends documents collection h i j a b l e f =
       | inr x ↦ elim (place_of collection.rows collection.next_row documents j b f) [
         | inl y ↦ absurd (omega (arith, x.1, y.1))
         | inr y ↦ omega (arith, x.1, x.2, y.1, y.2)
-      ]
-    ]
-
--- No two rows have one number.
-pub keeps_rows_apart : KeepsRowsApart
-keeps_rows_apart documents collection i j a b h e f same =
-    elim (cases_order i j) [
-      | inl is ↦ is
-      | inr apart ↦ elim apart [
-        | inl l ↦ absurd (omega (arith, same, ascends documents collection h i j a b l e f))
-        | inr g ↦ absurd (omega (arith, same, ascends documents collection h j i b a g f e))
       ]
     ]
 

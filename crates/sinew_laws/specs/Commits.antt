@@ -8,12 +8,12 @@ use Rattle.commit_core.specs.declared.entry.Entry.{Entry}
 use Rattle.commit_core.specs.declared.reply.Reply.{Reply}
 use Rattle.commit_core.specs.declared.prepared_sort.PreparedSort.TheVariants as sort
 
--- A write leaves one thing: one list of commits, and one reply.
+-- A write of a text by a caller over commits leaves one list of commits, and one reply.
 abbrev pub LeavesOneThing : Type 0
 LeavesOneThing = (caller : ℕ) (text : List ℕ) (old one other : List Entry) (first second : Reply) →
     IsWrite caller text old one first → IsWrite caller text old other second → (one ≡ other) × (first ≡ second)
 
--- Readings of one text at one number that agree with the same commits have read the same.
+-- Readings of one text at one number that agree with the same commits have read the same rows, once both have read.
 abbrev pub HoldsOneThing : Type 0
 HoldsOneThing = (a b : ReadingOf) (texts : List (List ℕ)) (one other : List Cells) → Agrees a texts → Agrees b texts →
     a.text ≡ b.text → a.at ≡ b.at → a.rows ≡ Some one → b.rows ≡ Some other → one ≡ other

@@ -1,12 +1,13 @@
 // Laws of writes and readings.
 ghost use Rattle.sinew_laws.specs.Commits.{HoldsOneThing, IsOfAQuestion, LeavesOneThing};
 
-/// Law: a write leaves one list of commits, and one reply.
+/// Law: a write of a text by a caller over commits leaves one list of commits, and one reply.
 pub fn a_write_leaves_one_thing()
     ensures { LeavesOneThing }
 {}
 
-/// Law: readings of one text at one number that agree with the same commits have read the same.
+/// Law: readings of one text at one number that agree with the same commits have read the same rows, once both have
+/// read.
 pub fn readings_of_one_number_hold_one_thing()
     ensures { HoldsOneThing }
 {}

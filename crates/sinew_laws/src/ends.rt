@@ -1,28 +1,32 @@
 // Laws of how a run ends.
-ghost use Rattle.sinew_laws.specs.Ends.{IsNoFailure, IsNoWhole, LeavesAll, LeavesItsCommits, LeavesOneEnd, LeavesOneRefusal};
+ghost use Rattle.sinew_laws.specs.Ends.{BlamesNoDevice, LeavesAFront, LeavesItsCommits, LeavesOneEnd, LeavesOneRefusal, LeavesSinkAndStore};
 
 use sinew_app::a_script_has_one_serial_run;
 
-/// Law: two runs of one input that are done leave the same.
+/// Law: two runs from one source to one sink that are done leave both the same, and the same texts of commits, where
+/// source and sink tell their bytes.
 pub fn a_done_run_leaves_one_thing()
     ensures { LeavesOneEnd }
 {
     a_script_has_one_serial_run();
 }
 
-/// Law: two runs of one input that are refused leave the same.
+/// Law: two runs from one source to one sink that are refused leave both the same, and the same commits, where source
+/// and sink tell their bytes.
 pub fn a_refusal_leaves_one_thing()
     ensures { LeavesOneRefusal }
 {}
 
-/// Law: a writing that broke off is neither done nor refused.
-pub fn a_broken_text_is_not_whole()
-    ensures { IsNoWhole }
+/// Law: what a sink took of a text whose writing broke off is a front of what it takes where the same source is done or
+/// refused, and not all of that, with the same texts of commits, where source and sink tell their bytes.
+pub fn a_broken_writing_leaves_a_front()
+    ensures { LeavesAFront }
 {
     a_script_has_one_serial_run();
 }
 
-/// Law: wherever the writing breaks off, the same is read and the store has the same commits.
+/// Law: wherever the writing breaks off for one source, the same is read and the store has the same texts of commits,
+/// where the source tells its bytes.
 pub fn a_broken_run_leaves_its_commits()
     ensures { LeavesItsCommits }
 {
@@ -30,11 +34,12 @@ pub fn a_broken_run_leaves_its_commits()
 }
 
 /// Law: where nothing was written the sink is as it was, and the store has no commit.
-pub fn what_is_unwritten_leaves_all()
-    ensures { LeavesAll }
+pub fn an_unwritten_run_leaves_sink_and_store()
+    ensures { LeavesSinkAndStore }
 {}
 
-/// Law: where the input alone decides no device failed, and only want of memory comes for a script and for other bytes.
-pub fn a_decision_is_no_failure()
-    ensures { IsNoFailure }
+/// Law: a status that the input alone decides is not Read, Write or Words, and one that is decided both for a script and
+/// for other bytes is Memory.
+pub fn the_input_alone_blames_no_device()
+    ensures { BlamesNoDevice }
 {}

@@ -1,12 +1,13 @@
-//! What follows of the definitions of states, commits, runs and ends: laws, and no code.
+//! What follows of the definitions of kinds, states, commits, readings, runs and ends: laws, and no code.
 //!
-//! Its one promise is that each of those definitions means what its sentence says, where no call of the program would
-//! show the difference: a weaker definition makes a law here false. It knows nothing of how anything is computed.
-//! Read `specs/Runs.antt` first: it is about what a printed run shows.
+//! Its one promise is its laws. Most of them are false of some definition that says less, where no test and no worked
+//! row would show the difference. It knows nothing of how anything is computed.
+//! Read `specs/Runs.antt` first: it is about legal runs.
 #![tactic(auto)]
 
 mod commits;
 mod ends;
+mod kinds;
 mod runs;
 mod states;
 
@@ -14,13 +15,19 @@ pub use commits::{
     a_write_leaves_one_thing, readings_are_of_questions, readings_of_one_number_hold_one_thing,
 };
 pub use ends::{
-    a_broken_run_leaves_its_commits, a_broken_text_is_not_whole, a_decision_is_no_failure,
-    a_done_run_leaves_one_thing, a_refusal_leaves_one_thing, what_is_unwritten_leaves_all,
+    a_broken_run_leaves_its_commits, a_broken_writing_leaves_a_front, a_done_run_leaves_one_thing,
+    a_refusal_leaves_one_thing, an_unwritten_run_leaves_sink_and_store,
+    the_input_alone_blames_no_device,
+};
+pub use kinds::{
+    comparisons_are_of_one_kind, each_symbol_has_a_mark, parts_are_of_the_wanted_kind,
+    values_are_of_the_wanted_kind,
 };
 pub use runs::{
-    commits_are_accepted_writes, numbers_are_those_of_commits, sessions_keep_their_order,
+    commits_of_a_session_keep_its_order, exactly_accepted_writes_are_commits,
+    numbers_are_at_most_all_commits, numbers_of_a_session_never_fall,
 };
 pub use states::{
     documents_have_their_pairs, names_find_their_collections, pairs_are_told_apart,
-    rows_are_numbered_from_zero, rows_are_told_apart, states_are_small, what_stands_is_a_document,
+    rows_are_numbered_from_zero, rows_ascend, states_keep_their_limits, what_stands_is_a_document,
 };

@@ -1,5 +1,5 @@
 // Laws of the definitions of states.
-ghost use Rattle.sinew_laws.specs.States.{HasOnePlaceForAPair, HasPairsOfAllFields, IsAMap, IsSmall, KeepsRowsApart, NumbersRowsFromZero, WhatStandsIsADocument};
+ghost use Rattle.sinew_laws.specs.States.{HasOnePlaceForAPair, HasPairsOfAllFields, IsAMap, KeepsItsLimits, KeepsRowsInOrder, NumbersRowsFromZero, WhatStandsIsADocument};
 
 /// Law: in a state that keeps the rules each collection is the one that its name finds.
 pub fn names_find_their_collections()
@@ -7,13 +7,14 @@ pub fn names_find_their_collections()
 {}
 
 /// Law: a state that keeps the rules has at most 256 collections, and each has at most 65,536 pairs and 2,097,152 versions.
-pub fn states_are_small()
-    ensures { IsSmall }
+pub fn states_keep_their_limits()
+    ensures { KeepsItsLimits }
 {}
 
-/// Law: however much is put behind the rows of a collection that keeps the rules, no two of them have one number.
-pub fn rows_are_told_apart()
-    ensures { KeepsRowsApart }
+/// Law: however many documents are put behind the rows of a collection that keeps the rules, the numbers of its rows
+/// ascend.
+pub fn rows_ascend()
+    ensures { KeepsRowsInOrder }
 {}
 
 /// Law: in a collection that keeps the rules each pair is found at its place, and at no other one.
@@ -21,12 +22,13 @@ pub fn pairs_are_told_apart()
     ensures { HasOnePlaceForAPair }
 {}
 
-/// Law: what a question finds in a state that keeps the rules is a document within its limits.
+/// Law: what a question finds in a state that keeps the rules is a document within its limits, and weighs at most
+/// 16,777,216 bytes.
 pub fn what_stands_is_a_document()
     ensures { WhatStandsIsADocument }
 {}
 
-/// Law: the fields of a document that stands in a collection bring no new pair to it.
+/// Law: in a collection that keeps the rules no document has a pair that is new to it.
 pub fn documents_have_their_pairs()
     ensures { HasPairsOfAllFields }
 {}

@@ -1,5 +1,5 @@
 use Rattle.sinew_laws.proofs.RunLemmas.{in_order}
-use Rattle.sinew_laws.proofs.runs.commits_are_accepted_writes.Goals as goal
+use Rattle.sinew_laws.proofs.runs.exactly_accepted_writes_are_commits.Goals as goal
 
 pub returns : goal.returns
 returns c = λ lines run k reply legal e. (λ sure. legal.stands k reply e sure, λ s. in_order lines run k reply legal e s)

@@ -1,0 +1,251 @@
+-- The kinds of what terms mean, of what their parts mean, and of what they compare.
+use Rattle.std.proofs.Common.{◌≡◌, ℕ, zero, suc, neg_ℤ, ℤ, ◌==◌, Bool, true, ◌&&◌, List, [], ◌∷◌, map, Option, Some, None, option_map, option_and_then, ◌⊎◌, inl, inr, ⊎_elim, refl, sym, ap, ◌∙◌, subst}
+use Rattle.std.specs.Prelude.{IfSome, slice_get}
+use Rattle.std.specs.List.{list_all}
+use Rattle.std.proofs.lemmas.Bool.{and_parts, cond_both, false≢true}
+use Rattle.std.proofs.lemmas.Option.{same_Some}
+use Rattle.doc_values.specs.declared.kind.Kind.{Kind}
+use Rattle.doc_values.specs.declared.kind.Kind.TheVariants as kind
+use Rattle.doc_values.specs.declared.value.Value.{Value}
+use Rattle.doc_values.specs.Value.{kind_of}
+use Rattle.doc_values.specs.Doc.{Fields, value_at}
+use Rattle.doc_values.specs.Order.{rank, same_kind}
+use Rattle.sql_tree.specs.declared.addend.Addend.{Addend}
+use Rattle.sql_tree.specs.declared.reference.Ref.{Ref}
+use Rattle.sql_tree.specs.declared.term.Term.{Term}
+use Rattle.sql_tree.specs.declared.term.Term.TheVariants as term
+use Rattle.sql_tree.specs.declared.term.Term.TheOpen.{Term-F, Addend-F}
+use Rattle.sql_tree.specs.declared.term.Term.TheViews.{roll-Term, out-Term, roll-out-Term}
+use Rattle.sql_tree.specs.declared.term.Term.TheFolds.{fold-Term, fold-Addend, fold-roll-Term, fold_out-Term, fold_out-Addend}
+use Rattle.sql_eval.specs.declared.truth_value.Truth.{Truth}
+use Rattle.sql_eval.specs.declared.truth_value.Truth.TheVariants.{True, False, Unknown}
+use Rattle.sql_eval.specs.Truth.{value_of, any_of, all_of, denied}
+use Rattle.sql_eval.specs.Operators.{value_of_number, sum_of, product_of}
+use Rattle.sql_eval.specs.Kinds.{own_step, wanted_beside}
+use Rattle.sql_eval.specs.Sides.{side_at}
+use Rattle.sql_eval.specs.Meaning.{Part, if_wanted, given, table_of, read, truth_in, number_in, comparison_of, means_step, part_step, addend_step, part_of, meaning}
+use Rattle.type_rules.specs.Kinds.{agree, Fitting, all_fit, side_fits, sides_fit, parts_fit, fitting_step, fitting_addend, fitting_of, addend_fits, fits}
+use Rattle.type_rules.proofs.TermFolds.{term-Or, term-And, term-Not, term-Compare, term-Among, term-Between, term-Like, term-Sum, term-Product, term-Minus}
+use Rattle.sinew_laws.specs.Kinds.{WantsOf, in_or, in_and, in_not, in_like, in_sum, in_product, in_minus, Compares, by_sign, with_member, with_low, with_high, own_of, HoldsBeside, MeansOneOf, MeanOneKind}
+
+-- ---- kinds of values
+
+-- NULL, or a value of a kind.
+abbrev IsOf : Kind → Option Value → Type 0
+IsOf k v = IfSome v (λ x. kind_of x ≡ k)
+
+same_kinds : (a b : Kind) → same_kind a b ≡ true → a ≡ b
+same_kinds kind.Bool kind.Bool e = refl
+same_kinds kind.Int kind.Int e = refl
+same_kinds kind.Text kind.Text e = refl
+same_kinds kind.Array kind.Array e = refl
+same_kinds kind.Object kind.Object e = refl
+same_kinds a b e = absurd (false≢true e)
+
+truth_is : (k : Kind) (t : Truth) → kind.Bool ≡ k → IsOf k (value_of t)
+truth_is k True e = e
+truth_is k False e = e
+truth_is k Unknown e = tt
+
+number_is : (k : Kind) (n : Option ℤ) → kind.Int ≡ k → IsOf k (value_of_number n)
+number_is k None e = tt
+number_is k (Some n) e = e
+
+wanted_is : (k : Kind) (v : Value) → IsOf k (if_wanted (Some k) v)
+wanted_is k v = cond_both (rank k == rank (kind_of v)) (Some v) None (IsOf k) (λ e. sym (same_kinds k (kind_of v) e)) (λ e. tt)
+
+then_is : {A : Type 0} (k : Kind) (f : A → Option Value) (o : Option A) → ((x : A) → IsOf k (f x)) → IsOf k (option_and_then f o)
+then_is k f None each = tt
+then_is k f (Some x) each = each x
+
+-- ---- what keeps the rule
+
+-- A term has a kind by itself, or it is wanted to be of the kind and has no other.
+abbrev Fine : Kind → Option Kind → Option Kind → Type 0
+Fine k want own = (own ≡ Some k) ⊎ ((want ≡ Some k) × (agree (Some k) own ≡ true))
+
+is_kind : (k j : Kind) (want : Option Kind) → Fine k want (Some j) → j ≡ k
+is_kind k j want fine = ⊎_elim (λ e. same_Some j k e) (λ e. sym (same_kinds k j e.1)) fine
+
+level_agrees : (step : Term-F Fitting Bool → Fitting) → ((level : Term-F Fitting Bool) (want : Option Kind) → (step level).fits want ≡ true → agree want (step level).own ≡ true) → (p : Fitting) (level : Term-F Fitting Bool) → p ≡ step level → (want : Option Kind) → p.fits want ≡ true → agree want p.own ≡ true
+level_agrees step each p level e want = subst (λ (q : Fitting). q.fits want ≡ true → agree want q.own ≡ true) (sym e) (each level want)
+
+fold_agrees : (step : Term-F Fitting Bool → Fitting) (add : Addend-F Fitting Bool → Bool) → ((level : Term-F Fitting Bool) (want : Option Kind) → (step level).fits want ≡ true → agree want (step level).own ≡ true) → (t : Term) (want : Option Kind) →
+    (fold-Term Fitting Bool step add t).fits want ≡ true → agree want (fold-Term Fitting Bool step add t).own ≡ true
+fold_agrees step add each t want = level_agrees step each (fold-Term Fitting Bool step add t) _ (fold_out-Term Fitting Bool step add t) want
+
+-- A term that keeps the rule has no other kind by itself than the one that is wanted.
+agrees : (t : Term) (want : Option Kind) → fits t want ≡ true → agree want (own_of t) ≡ true
+agrees t want kept =
+    fold_agrees fitting_step fitting_addend (λ level w inside. (and_parts (agree w (own_step (λ p. p.own) level)) (parts_fit level w) inside).0) t want kept
+
+-- Its parts keep the rule too.
+inside : (t : Term) (level : Term-F Fitting Bool) (want : Option Kind) → fitting_of t ≡ fitting_step level → fits t want ≡ true → parts_fit level want ≡ true
+inside t level want is kept = (and_parts (agree want (own_step (λ p. p.own) level)) (parts_fit level want) (sym (ap (λ (p : Fitting). p.fits want) is) ∙ kept)).1
+
+member_fits : (k : Kind) (ts : List Term) (place : ℕ) (t : Term) → all_fit k (map fitting_of ts) ≡ true → slice_get ts place ≡ Some t → fits t (Some k) ≡ true
+member_fits k [] place t all at = absurd (cc)
+member_fits k (u ∷ ts) zero t all at = subst (λ (v : Term). fits v (Some k) ≡ true) (same_Some u t at) (and_parts (fits u (Some k)) (all_fit k (map fitting_of ts)) all).0
+member_fits k (u ∷ ts) (suc place) t all at = member_fits k ts place t (and_parts (fits u (Some k)) (all_fit k (map fitting_of ts)) all).1 at
+
+addend_member_fits : (members : List Addend) (place : ℕ) (m : Addend) → list_all (λ fit. fit) (map addend_fits members) ≡ true → slice_get members place ≡ Some m → fits m.term (Some kind.Int) ≡ true
+addend_member_fits [] place m all at = absurd (cc)
+addend_member_fits (n ∷ members) zero m all at =
+    subst (λ (x : Addend). fits x.term (Some kind.Int) ≡ true) (same_Some n m at)
+    (sym (fold_out-Addend Fitting Bool fitting_step fitting_addend n) ∙ (and_parts (addend_fits n) (list_all (λ fit. fit) (map addend_fits members)) all).0)
+addend_member_fits (n ∷ members) (suc place) m all at = addend_member_fits members place m (and_parts (addend_fits n) (list_all (λ fit. fit) (map addend_fits members)) all).1 at
+
+pair_fits : (t : Term) (ts : List Term) (place : ℕ) (u : Term) → list_all (sides_fit (fitting_of t)) (map fitting_of ts) ≡ true → slice_get ts place ≡ Some u → sides_fit (fitting_of t) (fitting_of u) ≡ true
+pair_fits t [] place u all at = absurd (cc)
+pair_fits t (v ∷ ts) zero u all at =
+    subst (λ (w : Term). sides_fit (fitting_of t) (fitting_of w) ≡ true) (same_Some v u at)
+    (and_parts (sides_fit (fitting_of t) (fitting_of v)) (list_all (sides_fit (fitting_of t)) (map fitting_of ts)) all).0
+pair_fits t (v ∷ ts) (suc place) u all at = pair_fits t ts place u (and_parts (sides_fit (fitting_of t) (fitting_of v)) (list_all (sides_fit (fitting_of t)) (map fitting_of ts)) all).1 at
+
+-- A part of which a kind is wanted keeps the rule where it is.
+part_fits : {t part : Term} {k : Kind} (want : Option Kind) → WantsOf t part k → fits t want ≡ true → fits part (Some k) ≡ true
+part_fits want (in_or ts t place at) kept = member_fits kind.Bool ts place t (inside (term.Or ts) (Term-F.Or (map fitting_of ts)) want (term-Or fitting_step fitting_addend ts) kept) at
+part_fits want (in_and ts t place at) kept = member_fits kind.Bool ts place t (inside (term.And ts) (Term-F.And (map fitting_of ts)) want (term-And fitting_step fitting_addend ts) kept) at
+part_fits want (in_not t) kept = inside (term.Not t) (Term-F.Not (fitting_of t)) want (term-Not fitting_step fitting_addend t) kept
+part_fits want (in_like t pattern negated) kept = inside (term.Like t pattern negated) (Term-F.Like (fitting_of t) pattern negated) want (term-Like fitting_step fitting_addend t pattern negated) kept
+part_fits want (in_sum members m place at) kept = addend_member_fits members place m (inside (term.Sum members) (Term-F.Sum (map addend_fits members)) want (term-Sum fitting_step fitting_addend members) kept) at
+part_fits want (in_product ts t place at) kept = member_fits kind.Int ts place t (inside (term.Product ts) (Term-F.Product (map fitting_of ts)) want (term-Product fitting_step fitting_addend ts) kept) at
+part_fits want (in_minus t) kept = inside (term.Minus t) (Term-F.Minus (fitting_of t)) want (term-Minus fitting_step fitting_addend t) kept
+
+-- Two parts that are compared keep the rule beside one another.
+compared_fit : {whole t u : Term} (want : Option Kind) → Compares whole t u → fits whole want ≡ true → sides_fit (fitting_of t) (fitting_of u) ≡ true
+compared_fit want (by_sign op t u) kept = inside (term.Compare op t u) (Term-F.Compare op (fitting_of t) (fitting_of u)) want (term-Compare fitting_step fitting_addend op t u) kept
+compared_fit want (with_member t u ts negated place at) kept =
+    pair_fits t ts place u (inside (term.Among t ts negated) (Term-F.Among (fitting_of t) (map fitting_of ts) negated) want (term-Among fitting_step fitting_addend t ts negated) kept) at
+compared_fit want (with_low t low high negated) kept =
+    (and_parts (sides_fit (fitting_of t) (fitting_of low)) (sides_fit (fitting_of t) (fitting_of high))
+    (inside (term.Between t low high negated) (Term-F.Between (fitting_of t) (fitting_of low) (fitting_of high) negated) want (term-Between fitting_step fitting_addend t low high negated) kept)).0
+compared_fit want (with_high t low high negated) kept =
+    (and_parts (sides_fit (fitting_of t) (fitting_of low)) (sides_fit (fitting_of t) (fitting_of high))
+    (inside (term.Between t low high negated) (Term-F.Between (fitting_of t) (fitting_of low) (fitting_of high) negated) want (term-Between fitting_step fitting_addend t low high negated) kept)).1
+
+-- ---- what terms mean
+
+module _ (scope : List (List ℕ)) (sides : List (Option Fields)) where
+  abbrev part : Term → Part
+  part = part_of scope sides
+
+  abbrev added : Addend → Option ℤ
+  added = fold-Addend Part (Option ℤ) (part_step scope sides) addend_step
+
+  read_is : (k : Kind) (r : Ref) → IsOf k (read scope sides r (Some k))
+  read_is k r =
+      then_is k (given r.name (Some k)) (option_and_then (side_at sides) (table_of scope r.qualifier))
+      (λ fields. then_is k (if_wanted (Some k)) (value_at r.name fields) (wanted_is k))
+
+  -- What a column gives where it is wanted to be of a kind.
+  column_is : (k : Kind) (want : Option Kind) (r : Ref) → Fine k want None → IsOf k (read scope sides r want)
+  column_is k want r fine =
+      ⊎_elim (λ e. absurd (cc)) (λ e. subst (λ (w : Option Kind). IsOf k (read scope sides r w)) (sym e.0) (read_is k r)) fine
+
+  -- What a column gives that has a kind written beside it.
+  written_is : (k j : Kind) (r : Ref) → j ≡ k → IsOf k (read scope sides r (Some j))
+  written_is k j r e = subst (λ (i : Kind). IsOf i (read scope sides r (Some j))) e (read_is j r)
+
+  -- From one level of a term to the term.
+  of_levels : (k : Kind) (want : Option Kind) (t : Term) (fitting : Term-F Fitting Bool) (means : Term-F Part (Option ℤ)) → fitting_of t ≡ fitting_step fitting → part t ≡ part_step scope sides means →
+      (Fine k want (own_step (λ p. p.own) fitting) → IsOf k (means_step scope sides means want)) → Fine k want (own_of t) → IsOf k (meaning scope sides t want)
+  of_levels k want t fitting means is is_too each fine =
+      let there : Fine k want (own_step (λ p. p.own) fitting) = subst (λ (p : Fitting). Fine k want p.own) is fine in
+      subst (λ (p : Part). IsOf k (p.means want)) (sym is_too) (each there)
+
+  abbrev Gives : Kind → Option Kind → Term → Type 0
+  Gives k want t = Fine k want (own_of t) → IsOf k (meaning scope sides t want)
+
+  shape_gives : (k : Kind) (want : Option Kind) (shape : Term-F Term Addend) → Gives k want (roll-Term shape)
+  shape_gives k want (Term-F.Number n) =
+      of_levels k want (roll-Term (Term-F.Number n)) (Term-F.Number n) (Term-F.Number n) (fold-roll-Term Fitting Bool fitting_step fitting_addend (Term-F.Number n))
+      (fold-roll-Term Part (Option ℤ) (part_step scope sides) addend_step (Term-F.Number n)) (is_kind k kind.Int want)
+  shape_gives k want (Term-F.Text text) =
+      of_levels k want (roll-Term (Term-F.Text text)) (Term-F.Text text) (Term-F.Text text) (fold-roll-Term Fitting Bool fitting_step fitting_addend (Term-F.Text text))
+      (fold-roll-Term Part (Option ℤ) (part_step scope sides) addend_step (Term-F.Text text)) (is_kind k kind.Text want)
+  shape_gives k want (Term-F.Bool b) =
+      of_levels k want (roll-Term (Term-F.Bool b)) (Term-F.Bool b) (Term-F.Bool b) (fold-roll-Term Fitting Bool fitting_step fitting_addend (Term-F.Bool b))
+      (fold-roll-Term Part (Option ℤ) (part_step scope sides) addend_step (Term-F.Bool b)) (is_kind k kind.Bool want)
+  shape_gives k want Term-F.Null =
+      of_levels k want (roll-Term Term-F.Null) Term-F.Null Term-F.Null (fold-roll-Term Fitting Bool fitting_step fitting_addend Term-F.Null)
+      (fold-roll-Term Part (Option ℤ) (part_step scope sides) addend_step Term-F.Null) (λ e. tt)
+  shape_gives k want (Term-F.Column r) =
+      of_levels k want (roll-Term (Term-F.Column r)) (Term-F.Column r) (Term-F.Column r) (fold-roll-Term Fitting Bool fitting_step fitting_addend (Term-F.Column r))
+      (fold-roll-Term Part (Option ℤ) (part_step scope sides) addend_step (Term-F.Column r)) (column_is k want r)
+  shape_gives k want (Term-F.Wanted j r) =
+      of_levels k want (roll-Term (Term-F.Wanted j r)) (Term-F.Wanted j r) (Term-F.Wanted j r) (fold-roll-Term Fitting Bool fitting_step fitting_addend (Term-F.Wanted j r))
+      (fold-roll-Term Part (Option ℤ) (part_step scope sides) addend_step (Term-F.Wanted j r)) (λ e. written_is k j r (is_kind k j want e))
+  shape_gives k want (Term-F.Or ts) =
+      of_levels k want (roll-Term (Term-F.Or ts)) (Term-F.Or (map fitting_of ts)) (Term-F.Or (map part ts)) (fold-roll-Term Fitting Bool fitting_step fitting_addend (Term-F.Or ts))
+      (fold-roll-Term Part (Option ℤ) (part_step scope sides) addend_step (Term-F.Or ts)) (λ e. truth_is k (any_of (map truth_in (map part ts))) (is_kind k kind.Bool want e))
+  shape_gives k want (Term-F.And ts) =
+      of_levels k want (roll-Term (Term-F.And ts)) (Term-F.And (map fitting_of ts)) (Term-F.And (map part ts)) (fold-roll-Term Fitting Bool fitting_step fitting_addend (Term-F.And ts))
+      (fold-roll-Term Part (Option ℤ) (part_step scope sides) addend_step (Term-F.And ts)) (λ e. truth_is k (all_of (map truth_in (map part ts))) (is_kind k kind.Bool want e))
+  shape_gives k want (Term-F.Not t) =
+      of_levels k want (roll-Term (Term-F.Not t)) (Term-F.Not (fitting_of t)) (Term-F.Not (part t)) (fold-roll-Term Fitting Bool fitting_step fitting_addend (Term-F.Not t))
+      (fold-roll-Term Part (Option ℤ) (part_step scope sides) addend_step (Term-F.Not t)) (λ e. truth_is k (denied (truth_in (part t))) (is_kind k kind.Bool want e))
+  shape_gives k want (Term-F.Compare op t u) =
+      of_levels k want (roll-Term (Term-F.Compare op t u)) (Term-F.Compare op (fitting_of t) (fitting_of u)) (Term-F.Compare op (part t) (part u)) (fold-roll-Term Fitting Bool fitting_step fitting_addend (Term-F.Compare op t u))
+      (fold-roll-Term Part (Option ℤ) (part_step scope sides) addend_step (Term-F.Compare op t u)) (λ e. truth_is k (comparison_of op (part t) (part u)) (is_kind k kind.Bool want e))
+  shape_gives k want (Term-F.IsNull t negated) =
+      of_levels k want (roll-Term (Term-F.IsNull t negated)) (Term-F.IsNull (fitting_of t) negated) (Term-F.IsNull (part t) negated) (fold-roll-Term Fitting Bool fitting_step fitting_addend (Term-F.IsNull t negated))
+      (fold-roll-Term Part (Option ℤ) (part_step scope sides) addend_step (Term-F.IsNull t negated)) (is_kind k kind.Bool want)
+  shape_gives k want (Term-F.Among t ts negated) =
+      of_levels k want (roll-Term (Term-F.Among t ts negated)) (Term-F.Among (fitting_of t) (map fitting_of ts) negated) (Term-F.Among (part t) (map part ts) negated) (fold-roll-Term Fitting Bool fitting_step fitting_addend (Term-F.Among t ts negated))
+      (fold-roll-Term Part (Option ℤ) (part_step scope sides) addend_step (Term-F.Among t ts negated)) (λ e. truth_is k _ (is_kind k kind.Bool want e))
+  shape_gives k want (Term-F.Between t low high negated) =
+      of_levels k want (roll-Term (Term-F.Between t low high negated)) (Term-F.Between (fitting_of t) (fitting_of low) (fitting_of high) negated) (Term-F.Between (part t) (part low) (part high) negated) (fold-roll-Term Fitting Bool fitting_step fitting_addend (Term-F.Between t low high negated))
+      (fold-roll-Term Part (Option ℤ) (part_step scope sides) addend_step (Term-F.Between t low high negated)) (λ e. truth_is k _ (is_kind k kind.Bool want e))
+  shape_gives k want (Term-F.Like t pattern negated) =
+      of_levels k want (roll-Term (Term-F.Like t pattern negated)) (Term-F.Like (fitting_of t) pattern negated) (Term-F.Like (part t) pattern negated) (fold-roll-Term Fitting Bool fitting_step fitting_addend (Term-F.Like t pattern negated))
+      (fold-roll-Term Part (Option ℤ) (part_step scope sides) addend_step (Term-F.Like t pattern negated)) (λ e. truth_is k _ (is_kind k kind.Bool want e))
+  shape_gives k want (Term-F.AnyOf t r) =
+      of_levels k want (roll-Term (Term-F.AnyOf t r)) (Term-F.AnyOf (fitting_of t) r) (Term-F.AnyOf (part t) r) (fold-roll-Term Fitting Bool fitting_step fitting_addend (Term-F.AnyOf t r))
+      (fold-roll-Term Part (Option ℤ) (part_step scope sides) addend_step (Term-F.AnyOf t r)) (λ e. tt)
+  shape_gives k want (Term-F.Sum members) =
+      of_levels k want (roll-Term (Term-F.Sum members)) (Term-F.Sum (map addend_fits members)) (Term-F.Sum (map added members)) (fold-roll-Term Fitting Bool fitting_step fitting_addend (Term-F.Sum members))
+      (fold-roll-Term Part (Option ℤ) (part_step scope sides) addend_step (Term-F.Sum members)) (λ e. number_is k (sum_of (map added members)) (is_kind k kind.Int want e))
+  shape_gives k want (Term-F.Product ts) =
+      of_levels k want (roll-Term (Term-F.Product ts)) (Term-F.Product (map fitting_of ts)) (Term-F.Product (map part ts)) (fold-roll-Term Fitting Bool fitting_step fitting_addend (Term-F.Product ts))
+      (fold-roll-Term Part (Option ℤ) (part_step scope sides) addend_step (Term-F.Product ts)) (λ e. number_is k (product_of (map number_in (map part ts))) (is_kind k kind.Int want e))
+  shape_gives k want (Term-F.Minus t) =
+      of_levels k want (roll-Term (Term-F.Minus t)) (Term-F.Minus (fitting_of t)) (Term-F.Minus (part t)) (fold-roll-Term Fitting Bool fitting_step fitting_addend (Term-F.Minus t))
+      (fold-roll-Term Part (Option ℤ) (part_step scope sides) addend_step (Term-F.Minus t)) (λ e. number_is k (option_map neg_ℤ (number_in (part t))) (is_kind k kind.Int want e))
+  shape_gives k want Term-F.CountAll =
+      of_levels k want (roll-Term Term-F.CountAll) Term-F.CountAll Term-F.CountAll (fold-roll-Term Fitting Bool fitting_step fitting_addend Term-F.CountAll)
+      (fold-roll-Term Part (Option ℤ) (part_step scope sides) addend_step Term-F.CountAll) (λ e. tt)
+  shape_gives k want (Term-F.Aggregate call t) =
+      of_levels k want (roll-Term (Term-F.Aggregate call t)) (Term-F.Aggregate call (fitting_of t)) (Term-F.Aggregate call (part t)) (fold-roll-Term Fitting Bool fitting_step fitting_addend (Term-F.Aggregate call t))
+      (fold-roll-Term Part (Option ℤ) (part_step scope sides) addend_step (Term-F.Aggregate call t)) (λ e. tt)
+
+  gives : (k : Kind) (want : Option Kind) (t : Term) → Gives k want t
+  gives k want t = subst (Gives k want) (roll-out-Term t) (shape_gives k want (out-Term t))
+
+  pub gives_wanted : (t : Term) (k : Kind) → fits t (Some k) ≡ true → MeansOneOf scope sides k t (Some k)
+  gives_wanted t k kept = gives k (Some k) t (inr (refl, agrees t (Some k) kept))
+
+  pub part_gives : {t part : Term} {k : Kind} (want : Option Kind) → WantsOf t part k → fits t want ≡ true → (fits part (Some k) ≡ true) × MeansOneOf scope sides k part (Some k)
+  part_gives {t} {part} {k} want of kept = let there = part_fits want of kept in (there, gives_wanted part k there)
+
+  -- A side beside another of which one has the kind by itself.
+  side_gives : (t : Term) (other : Option Kind) (k : Kind) → side_fits other (fitting_of t) ≡ true → ((own_of t ≡ Some k) ⊎ (other ≡ Some k)) → MeansOneOf scope sides k t (wanted_beside (own_of t) other)
+  side_gives t other k kept one = by (own_of t) refl kept one where
+    by : (own : Option Kind) → own_of t ≡ own → (agree own other && fits t (wanted_beside own other)) ≡ true → ((own ≡ Some k) ⊎ (other ≡ Some k)) → MeansOneOf scope sides k t (wanted_beside own other)
+    by (Some j) is both which =
+        let agreed : agree (Some j) other ≡ true = (and_parts (agree (Some j) other) (fits t None) both).0 in
+        let same : j ≡ k = ⊎_elim (λ e. same_Some j k e) (λ e. same_kinds j k (sym (ap (agree (Some j)) e) ∙ agreed)) which in
+        gives k None t (inl (is ∙ ap Some same))
+    by None is both which =
+        let there : fits t other ≡ true = (and_parts (agree None other) (fits t other) both).1 in
+        ⊎_elim (λ e. absurd (cc)) (λ e. gives k other t (inr (e, sym (ap (λ (w : Option Kind). agree w (own_of t)) e) ∙ agrees t other there))) which
+
+  swapped : {A B : Type 0} → A ⊎ B → B ⊎ A
+  swapped one = ⊎_elim (λ a. inr a) (λ b. inl b) one
+
+  pub sides_give : {whole t u : Term} (want : Option Kind) → Compares whole t u → fits whole want ≡ true → HoldsBeside t u × ((k : Kind) → ((own_of t ≡ Some k) ⊎ (own_of u ≡ Some k)) → MeanOneKind scope sides k t u)
+  sides_give {whole} {t} {u} want compares kept =
+      let both = and_parts (side_fits (own_of u) (fitting_of t)) (side_fits (own_of t) (fitting_of u)) (compared_fit want compares kept) in
+      let left = and_parts (agree (own_of t) (own_of u)) (fits t (wanted_beside (own_of t) (own_of u))) both.0 in
+      let right = and_parts (agree (own_of u) (own_of t)) (fits u (wanted_beside (own_of u) (own_of t))) both.1 in
+      ((left.1, right.1), λ k one. (side_gives t (own_of u) k both.0 one, side_gives u (own_of t) k both.1 (swapped one)))
