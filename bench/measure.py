@@ -21,7 +21,7 @@ MIB = 1 << 20
 
 
 def event(rng, number):
-    """One flat event of about 200 bytes."""
+    """One flat event of about 180 bytes."""
     return (
         '{"id":%d,"level":"%s","service":"svc-%d","message":"request %d took a while to finish",'
         '"ok":%s,"elapsed":%d,"user":"user-%06d","note":"%s"}'

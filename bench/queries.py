@@ -24,7 +24,7 @@ LEVELS = ["debug", "info", "warn", "error"]
 
 
 def document(rng, number):
-    """One event of 20 fields, about 500 bytes."""
+    """One event of 20 fields, about 350 bytes."""
     fields = {
         "id": number,
         "level": rng.choice(LEVELS),
@@ -66,6 +66,12 @@ def questions():
             "SELECT DISTINCT user FROM events",
             "SELECT DISTINCT json_extract(d, '$.user') FROM events",
             lambda ds: list(dict.fromkeys((d.get("user"),) for d in ds)),
+        ),
+        (
+            "two names, LIMIT 10",
+            "SELECT user, elapsed FROM events LIMIT 10",
+            "SELECT json_extract(d, '$.user'), json_extract(d, '$.elapsed') FROM events LIMIT 10",
+            lambda ds: [(d.get("user"), d.get("elapsed")) for d in ds[:10]],
         ),
         (
             "whole documents, LIMIT 10",

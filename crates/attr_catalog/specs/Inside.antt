@@ -18,8 +18,8 @@ abbrev pub AreApart : Named → Type 0
 AreApart names = (i j : ℕ) (a b : List ℕ × Kinds) → slice_get names i ≡ Some a → slice_get names j ≡ Some b → a.0 ≡ b.0 → i ≡ j
 
 -- A list is another one with one item behind it.
-abbrev pub HasFront : {X : Type 0} → List X → List X → Type 0
-HasFront {X} all front = (x : X) × (all ≡ front ++ x ∷ [])
+abbrev pub HasOneBehind : {X : Type 0} → List X → List X → Type 0
+HasOneBehind {X} all front = (x : X) × (all ≡ front ++ x ∷ [])
 
 -- The name at a place.
 abbrev pub name_at : Named → ℕ → List ℕ

@@ -1,6 +1,6 @@
 ghost use Rattle.std.specs.Prelude.{take, drop, ◌≡◌, ◌<◌, ◌≤◌, [], length, option_map, unwrap_or, slice_get, is_some, Some, IfSome, IsSome, ◌∷◌, ◌++◌, ◌↔◌, None, OnOk, OnErr, IfOk, IsOk};
 ghost use Rattle.std.specs.List.{All};
-ghost use Rattle.attr_catalog.specs.Inside.{HasFront};
+ghost use Rattle.attr_catalog.specs.Inside.{HasOneBehind};
 ghost use Rattle.attr_catalog.specs.Attribute.{fresh, raised, lowered, housed, dirtied, advanced, cleared};
 
 use crate::add_fault::AddFault;
@@ -241,7 +241,7 @@ impl Catalog {
     // Takes the last attribute away.
     fn pop(&mut self)
         requires { 0 < length self.old }
-        ensures exact { HasFront self.old self.new }
+        ensures exact { HasOneBehind self.old self.new }
     {
         if let Some(last) = self.stored.pop() {
             self.names.forget(last.name, last.kind);

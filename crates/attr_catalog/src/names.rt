@@ -25,7 +25,7 @@ impl Model for Names {
 impl Names {
     ghost use Rattle.std.specs.Prelude.{ℕ, List};
     ghost use Rattle.attr_catalog.specs.declared.kinds.Kinds.{Kinds as KindsOf};
-    ghost use Rattle.attr_catalog.specs.Inside.{AreApart, HasFront, Forgets, name_at, no_kinds, with_id};
+    ghost use Rattle.attr_catalog.specs.Inside.{AreApart, HasOneBehind, Forgets, name_at, no_kinds, with_id};
 
     pub(crate) fn new(alloc: Global) -> Names
         ensures exact { result ≡ [] }
@@ -103,7 +103,7 @@ impl Names {
     /// Takes the last name away.
     fn pop(&mut self)
         requires { 0 < length self.old }
-        ensures exact { HasFront self.old self.new }
+        ensures exact { HasOneBehind self.old self.new }
     {
         self.entries.pop();
     }

@@ -22,11 +22,15 @@ plan_unchanged state (write change) h = effect_unchanged state (effect_of change
 pub unchanged : (text : List ℕ) (state : State) → (told_of text state).accepted ≡ false → next_state state text ≡ state
 unchanged text state h = plan_unchanged state (plan_of text) h
 
-pub agrees_later : (reading : ReadingOf) (texts later : List (List ℕ)) → Agrees reading texts → Agrees reading (texts ++ later)
-agrees_later reading texts later agrees =
+pub agrees_front : (reading : ReadingOf) (texts others : List (List ℕ)) → Agrees reading texts → reading.at ≤ length others → take reading.at others ≡ take reading.at texts → Agrees reading others
+agrees_front reading texts others agrees reached same =
     record {
       question = agrees.question;
       planned = agrees.planned;
-      reached = omega (arith, agrees.reached, length-append texts later);
-      found = λ rows h. agrees.found rows h ∙ ap (λ front. rows_read agrees.question (documents_asked agrees.question (state_after front))) (sym (take-append-le reading.at texts later agrees.reached));
+      reached = reached;
+      found = λ rows h. agrees.found rows h ∙ ap (λ front. rows_read agrees.question (documents_asked agrees.question (state_after front))) (sym same);
     }
+
+pub agrees_later : (reading : ReadingOf) (texts later : List (List ℕ)) → Agrees reading texts → Agrees reading (texts ++ later)
+agrees_later reading texts later agrees =
+    agrees_front reading texts (texts ++ later) agrees (omega (arith, agrees.reached, length-append texts later)) (take-append-le reading.at texts later agrees.reached)

@@ -17,3 +17,4 @@ pub mod Places
 pub mod Lights
 mod StoredRows
 mod WholeDocuments
+pub mod NeededTuples

@@ -21,7 +21,7 @@ pub record ReadingOf : Type 0 where
   pub at : ℕ
   pub rows : Option (List Cells)
 
--- A reading agrees with commits of texts: they are as many as its number or more, and what it has read is what the documents of its table hold after the first so many.
+-- A reading agrees with commits of texts: its text is a question, they are as many as its number or more, and what it has read is what the documents of its table hold after the first so many.
 pub record Agrees (reading : ReadingOf) (texts : List (List ℕ)) : Type 0 where
   pub question : Select
   pub planned : plan_of reading.text ≡ read question

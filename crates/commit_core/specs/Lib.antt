@@ -11,3 +11,4 @@ pub mod StoredDocument
 pub mod Loading
 pub mod ReadBack
 pub mod StoredRow
+pub mod Needed

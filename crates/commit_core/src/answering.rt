@@ -1,4 +1,4 @@
-ghost use Rattle.std.specs.Prelude.{◌≡◌, All, IfOk, IfSome, List};
+ghost use Rattle.std.specs.Prelude.{◌≡◌, All, IfOk, IfSome, List, take};
 ghost use Rattle.doc_values.specs.Doc.{Fields};
 ghost use Rattle.sql_eval.specs.Widths.{CanEvaluate};
 ghost use Rattle.query_meaning.specs.Question.{answer_among};
@@ -6,9 +6,10 @@ ghost use Rattle.query_meaning.specs.Plans.{kept_by, rows_read, tuples_over};
 ghost use Rattle.query_meaning.specs.Runs.{IsStorableRow};
 ghost use Rattle.commit_core.specs.Plan.{Plan};
 ghost use Rattle.commit_core.specs.Planned.{IsReadAs};
+ghost use Rattle.commit_core.specs.Needed.{needed_of, stand_as_they_come};
 
 use doc_values::Bytes;
-use exec_finish::{finish, plain_values};
+use exec_finish::{a_limit_may_come_first, finish, plain_values};
 use exec_join::filter;
 use query_meaning::{plans_can_be_run, plans_keep_meaning};
 use sql_eval::{Row, SelectPlan, Tuple, Tuples};
@@ -23,10 +24,12 @@ pub(crate) fn answer(plan: &SelectPlan, rows: Vec<Row>) -> Result<Bytes, AllocEr
 {
     plans_keep_meaning();
     plans_can_be_run();
+    a_limit_may_come_first();
     let alloc = *rows.allocator();
     let tuples = tuples(alloc, rows)?;
     let kept = kept(alloc, plan, tuples)?;
-    let outputs = plain_values(alloc, plan, &kept)?;
+    let needed = needed(plan, kept);
+    let outputs = plain_values(alloc, plan, &needed)?;
     finish(alloc, plan, outputs)
 }
 
@@ -39,6 +42,35 @@ fn kept(alloc: Global, plan: &SelectPlan, tuples: Tuples) -> Result<Tuples, Allo
         Some(test) => filter(alloc, test, tuples),
         None => Ok(tuples),
     }
+}
+
+// The tuples whose rows are needed: where rows are neither told apart nor put in order, none beyond the limit.
+fn needed(plan: &SelectPlan, tuples: Tuples) -> Tuples
+    ensures exact { result ≡ needed_of plan.now tuples }
+{
+    match plan.limit {
+        Some(limit) if stand_as_they_come(plan) => first(limit, tuples),
+        _ => tuples,
+    }
+}
+
+// Whether rows are neither told apart nor put in order.
+fn stand_as_they_come(plan: &SelectPlan) -> bool
+    ensures exact { result ≡ stand_as_they_come plan.now.distinct plan.now.keys }
+{
+    match plan.keys.as_slice() {
+        [] => !plan.distinct,
+        _ => false,
+    }
+}
+
+// The first tuples, as many as the limit admits.
+fn first(limit: u64, tuples: Tuples) -> Tuples
+    ensures exact { result ≡ take limit tuples }
+{
+    let mut tuples = tuples.into_vec();
+    tuples.truncate(limit as usize);
+    Tuples::from_vec(tuples)
 }
 
 // The tuples of one table's rows.

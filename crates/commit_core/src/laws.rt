@@ -1,5 +1,5 @@
 // Laws of the definitions, for the crates above.
-ghost use Rattle.std.specs.Prelude.{◌≡◌, ◌++◌, ℕ, List, false};
+ghost use Rattle.std.specs.Prelude.{◌≡◌, ◌≤◌, ◌++◌, ℕ, List, false, length, take};
 ghost use Rattle.exec_finish.specs.Lines.{IsLines};
 ghost use Rattle.commit_core.specs.Agreement.{Agrees, ReadingOf};
 ghost use Rattle.commit_core.specs.Replies.{next_state, told_of, state_after};
@@ -23,7 +23,9 @@ pub fn what_is_not_accepted_changes_nothing()
     ensures { (text : List ℕ) (state : State) → (told_of text state).accepted ≡ false → next_state state text ≡ state }
 {}
 
-/// Law: a reading that agrees with commits agrees with them and any later ones.
+/// Law: a reading that agrees with commits agrees with all commits of which the first, as many as its number, are the
+/// same; so it does with any later ones.
 pub fn readings_agree_with_later_commits()
-    ensures { (reading : ReadingOf) (texts later : List (List ℕ)) → Agrees reading texts → Agrees reading (texts ++ later) }
+    ensures fronts { (reading : ReadingOf) (texts others : List (List ℕ)) → Agrees reading texts → reading.at ≤ length others → take reading.at others ≡ take reading.at texts → Agrees reading others }
+    ensures later { (reading : ReadingOf) (texts later : List (List ℕ)) → Agrees reading texts → Agrees reading (texts ++ later) }
 {}

@@ -83,7 +83,8 @@ fn read_text(alloc: Global, bytes: &[u8]) -> Result<Utf, AllocError>
     }
 }
 
-/// A value is what its bytes stand for at its kind, and bytes tell the values of one kind apart.
+/// A value that a document may hold is what its bytes stand for at its kind, and bytes tell two such values of one kind
+/// apart.
 pub fn stored_values_are_told_apart()
     ensures back { ReadsBack }
     ensures apart { AreToldApart }

@@ -6,7 +6,7 @@ use Rattle.std.specs.List.{AllByRecursion}
 use Rattle.serde_json.specs.Data.{Data, null, boolean, number, string, array, object, Items, no_items, item, Members}
 use Rattle.serde_json.specs.Read.{read}
 use Rattle.doc_values.specs.Doc.{Fields}
-use Rattle.doc_flatten.specs.Documents.{document_with, is_admitted, document_of, are_objects, behind, documents_from, documents_or_unread, documents_of}
+use Rattle.doc_flatten.specs.Documents.{document_of_members, is_admitted, document_of, are_objects, behind, documents_from, documents_or_unread, documents_of}
 
 -- ---- what is known of the members of each object that may be a document
 
@@ -31,10 +31,10 @@ FitsWhole Fits (Some (boolean b)) = ⊤
 FitsWhole Fits (Some (number n)) = ⊤
 FitsWhole Fits (Some (string s)) = ⊤
 
-module _ (Fits : Members → Type 0) (Holds : Fields → Type 0) (admitted : (ms : Members) → Fits ms → is_admitted ms ≡ true → Holds (document_with ms)) where
-  of_object : (b : Bool) (ms : Members) (doc : Fields) → Fits ms → is_admitted ms ≡ b → cond b (Some (document_with ms)) None ≡ Some doc → Holds doc
+module _ (Fits : Members → Type 0) (Holds : Fields → Type 0) (admitted : (ms : Members) → Fits ms → is_admitted ms ≡ true → Holds (document_of_members ms)) where
+  of_object : (b : Bool) (ms : Members) (doc : Fields) → Fits ms → is_admitted ms ≡ b → cond b (Some (document_of_members ms)) None ≡ Some doc → Holds doc
   of_object false ms doc fits same e = absurd (cc)
-  of_object true ms doc fits same e = let is : document_with ms ≡ doc = cc in subst Holds is (admitted ms fits same)
+  of_object true ms doc fits same e = let is : document_of_members ms ≡ doc = cc in subst Holds is (admitted ms fits same)
 
   of_tree : (d : Data) (doc : Fields) → FitsTree Fits d → document_of d ≡ Some doc → Holds doc
   of_tree (object ms) doc fits e = of_object (is_admitted ms) ms doc fits refl e
@@ -96,5 +96,5 @@ any_whole (Some (boolean b)) = tt
 any_whole (Some (number n)) = tt
 any_whole (Some (string s)) = tt
 
-pub documents_of-each : (Holds : Fields → Type 0) → ((ms : Members) → is_admitted ms ≡ true → Holds (document_with ms)) → (text : List ℕ) (docs : List Fields) → documents_of text ≡ Ok docs → All Holds docs
+pub documents_of-each : (Holds : Fields → Type 0) → ((ms : Members) → is_admitted ms ≡ true → Holds (document_of_members ms)) → (text : List ℕ) (docs : List Fields) → documents_of text ≡ Ok docs → All Holds docs
 documents_of-each Holds admitted text docs e = documents_of-each_fitting (λ ms. ⊤) Holds (λ ms fits. admitted ms) text docs (any_whole (read text)) e

@@ -10,8 +10,8 @@ use Rattle.doc_values.specs.declared.value.Value.TheVariants.{Int}
 use Rattle.doc_values.specs.Weight.{value_weight, weight_of}
 use Rattle.doc_values.specs.Doc.{Fields, with_field}
 use Rattle.doc_flatten.specs.Tree.{int_of, dotted, has_integers, members_have_integers, has_paths}
-use Rattle.doc_flatten.specs.Fields.{fields_under, members_fields, with_fields}
-use Rattle.doc_flatten.specs.Documents.{document_with, is_admitted, documents_of}
+use Rattle.doc_flatten.specs.Fields.{fields_under, members_fields, with_all_fields}
+use Rattle.doc_flatten.specs.Documents.{document_of_members, is_admitted, documents_of}
 use Rattle.doc_flatten.proofs.Tests.{both_true}
 use Rattle.doc_flatten.proofs.Cost.{cost, items_cost, members_cost}
 use Rattle.doc_flatten.proofs.CompactCost.{length-compact_text}
@@ -42,9 +42,9 @@ mass-with_field [] name v = omega arith
 mass-with_field (f ∷ fs) name v =
     either_mass (slice_cmp nat_cmp name f.0) _ ((name, v) ∷ f ∷ fs) ((f.0, v) ∷ fs) (f ∷ with_field fs name v) (omega arith) (omega arith) (omega (arith, mass-with_field fs name v))
 
-mass-with_fields : (doc fields : Fields) → mass (with_fields doc fields) ≤ mass doc + mass fields
-mass-with_fields doc [] = omega arith
-mass-with_fields doc (f ∷ fs) = omega (arith, mass-with_field doc f.0 f.1, mass-with_fields (with_field doc f.0 f.1) fs)
+mass-with_all_fields : (doc fields : Fields) → mass (with_all_fields doc fields) ≤ mass doc + mass fields
+mass-with_all_fields doc [] = omega arith
+mass-with_all_fields doc (f ∷ fs) = omega (arith, mass-with_field doc f.0 f.1, mass-with_all_fields (with_field doc f.0 f.1) fs)
 
 -- ---- a tree
 
@@ -76,12 +76,12 @@ mutual
 abbrev Affords : ℕ → Members → Type 0
 Affords n ms = members_cost ms ≤ 16 * n + 16
 
-document_with-light : (n : ℕ) (ms : Members) → Affords n ms → is_admitted ms ≡ true → weight_of (document_with ms) ≤ 16 * n
-document_with-light n ms afforded h =
+document_of_members-light : (n : ℕ) (ms : Members) → Affords n ms → is_admitted ms ≡ true → weight_of (document_of_members ms) ≤ 16 * n
+document_of_members-light n ms afforded h =
     let few = both_true (nat_le (depth (object ms)) 64 && has_integers (object ms) && has_paths [] (object ms)) _ h in
     let paths = both_true (nat_le (depth (object ms)) 64 && has_integers (object ms)) _ few.0 in
     let integers = both_true (nat_le (depth (object ms)) 64) _ paths.0 in
-    omega (arith, sym (mass-weight (document_with ms)), mass-with_fields [] (members_fields [] ms), mass-members_fields [] ms integers.1)
+    omega (arith, sym (mass-weight (document_of_members ms)), mass-with_all_fields [] (members_fields [] ms), mass-members_fields [] ms integers.1)
 
 fits-items : (n : ℕ) (ds : Items) → items_cost ds ≤ 16 * n + 16 → AllFit (Affords n) ds
 fits-items n no_items le = tt
@@ -103,4 +103,4 @@ fits-whole n (Some (object ms)) h = (omega arith, tt)
 
 pub documents_of-light : (text : List ℕ) (docs : List Fields) → documents_of text ≡ Ok docs → All (λ doc. weight_of doc ≤ 16 * length text) docs
 documents_of-light text docs =
-    documents_of-each_fitting (Affords (length text)) (λ doc. weight_of doc ≤ 16 * length text) (document_with-light (length text)) text docs (fits-whole (length text) (read text) (read-cost text))
+    documents_of-each_fitting (Affords (length text)) (λ doc. weight_of doc ≤ 16 * length text) (document_of_members-light (length text)) text docs (fits-whole (length text) (read text) (read-cost text))

@@ -8,8 +8,8 @@ use Rattle.doc_values.specs.Value.{IsStorable}
 use Rattle.doc_values.specs.Doc.{Fields, with_field, IsDocument}
 use Rattle.doc_values.proofs.Maps.{kept}
 use Rattle.doc_flatten.specs.Tree.{dotted, has_integers, has_paths}
-use Rattle.doc_flatten.specs.Fields.{fields_under, members_fields, with_fields}
-use Rattle.doc_flatten.specs.Documents.{document_with, is_admitted, IsWithinLimits}
+use Rattle.doc_flatten.specs.Fields.{fields_under, members_fields, with_all_fields}
+use Rattle.doc_flatten.specs.Documents.{document_of_members, is_admitted, IsWithinLimits}
 use Rattle.doc_flatten.proofs.Tests.{both_true}
 
 abbrev Storable : Fields → Type 0
@@ -19,9 +19,9 @@ Storable-append : (xs ys : Fields) → Storable xs → Storable ys → Storable 
 Storable-append [] ys p q = q
 Storable-append (x ∷ xs) ys p q = (p.0, Storable-append xs ys p.1 q)
 
-with_fields-document : (doc fields : Fields) → IsDocument doc → Storable fields → IsDocument (with_fields doc fields)
-with_fields-document doc [] p q = p
-with_fields-document doc (f ∷ fs) p q = with_fields-document (with_field doc f.0 f.1) fs ((kept doc f.0 p).0 f.1 q.0) q.1
+with_all_fields-document : (doc fields : Fields) → IsDocument doc → Storable fields → IsDocument (with_all_fields doc fields)
+with_all_fields-document doc [] p q = p
+with_all_fields-document doc (f ∷ fs) p q = with_all_fields-document (with_field doc f.0 f.1) fs ((kept doc f.0 p).0 f.1 q.0) q.1
 
 bounds : (z : ℤ) → int_le (negsuc 9223372036854775807) z && int_le z (pos 9223372036854775807) ≡ true → IsStorable (Int z)
 bounds z h = let p = both_true (int_le (negsuc 9223372036854775807) z) _ h in (omega (arith, ints, p.0), omega (arith, ints, p.1))
@@ -51,7 +51,7 @@ mutual
   members_fields-storable path (member key d ms) =
       Storable-append (fields_under (dotted path key) d) (members_fields path ms) (fields_under-storable (dotted path key) d) (members_fields-storable path ms)
 
-pub document_with-limits : (ms : Members) → is_admitted ms ≡ true → IsWithinLimits (document_with ms)
-document_with-limits ms h =
-    let few = both_true (nat_le (depth (object ms)) 64 && has_integers (object ms) && has_paths [] (object ms)) (nat_le (length (document_with ms)) 4096) h in
-    (with_fields-document [] (members_fields [] ms) tt (members_fields-storable [] ms), leb-true _ _ few.1)
+pub document_of_members-limits : (ms : Members) → is_admitted ms ≡ true → IsWithinLimits (document_of_members ms)
+document_of_members-limits ms h =
+    let few = both_true (nat_le (depth (object ms)) 64 && has_integers (object ms) && has_paths [] (object ms)) (nat_le (length (document_of_members ms)) 4096) h in
+    (with_all_fields-document [] (members_fields [] ms) tt (members_fields-storable [] ms), leb-true _ _ few.1)

@@ -12,8 +12,8 @@ use Rattle.doc_values.specs.Value.{HasOneLineArray, value_text}
 use Rattle.doc_values.specs.Doc.{Fields, with_field}
 use Rattle.doc_values.proofs.OneLine.{IsOneLine-printed}
 use Rattle.doc_flatten.specs.Tree.{int_of, dotted}
-use Rattle.doc_flatten.specs.Fields.{fields_under, members_fields, with_fields}
-use Rattle.doc_flatten.specs.Documents.{document_with}
+use Rattle.doc_flatten.specs.Fields.{fields_under, members_fields, with_all_fields}
+use Rattle.doc_flatten.specs.Documents.{document_of_members}
 use Rattle.doc_flatten.specs.Lines.{HasOneLineArrays}
 
 -- the same by recursion over the text
@@ -81,9 +81,9 @@ with_field-lines : (doc : Fields) (name : List ℕ) (v : value.Value) → Lines 
 with_field-lines [] name v p q = (q, tt)
 with_field-lines (f ∷ fs) name v p q = either_lines (slice_cmp nat_cmp name f.0) _ _ _ (q, p) (q, p.1) (p.0, with_field-lines fs name v p.1 q)
 
-with_fields-lines : (doc fields : Fields) → Lines doc → Lines fields → Lines (with_fields doc fields)
-with_fields-lines doc [] p q = p
-with_fields-lines doc (f ∷ fs) p q = with_fields-lines (with_field doc f.0 f.1) fs (with_field-lines doc f.0 f.1 p q.0) q.1
+with_all_fields-lines : (doc fields : Fields) → Lines doc → Lines fields → Lines (with_all_fields doc fields)
+with_all_fields-lines doc [] p q = p
+with_all_fields-lines doc (f ∷ fs) p q = with_all_fields-lines (with_field doc f.0 f.1) fs (with_field-lines doc f.0 f.1 p q.0) q.1
 
 int-lines : (path : List ℕ) (o : Option ℤ) → Lines (option_to_list (option_map (λ z. (path, Int z)) o))
 int-lines path None = tt
@@ -105,6 +105,6 @@ mutual
   members_fields-lines path (member key d ms) =
       Lines-append (fields_under (dotted path key) d) _ (fields_under-lines (dotted path key) d) (members_fields-lines path ms)
 
-pub document_with-lines : (ms : Members) → HasOneLineArrays (document_with ms)
-document_with-lines ms =
-    All-from_recursion (λ field. HasOneLineArray field.1) (document_with ms) (with_fields-lines [] (members_fields [] ms) tt (members_fields-lines [] ms))
+pub document_of_members-lines : (ms : Members) → HasOneLineArrays (document_of_members ms)
+document_of_members-lines ms =
+    All-from_recursion (λ field. HasOneLineArray field.1) (document_of_members ms) (with_all_fields-lines [] (members_fields [] ms) tt (members_fields-lines [] ms))

@@ -5,20 +5,20 @@ use Rattle.serde_json.specs.Find.{as_object}
 use Rattle.serde_json.specs.Read.{read}
 use Rattle.doc_values.specs.Doc.{Fields, IsDocument}
 use Rattle.doc_flatten.specs.Tree.{has_integers, has_paths}
-use Rattle.doc_flatten.specs.Fields.{members_fields, with_fields}
+use Rattle.doc_flatten.specs.Fields.{members_fields, with_all_fields}
 
 -- The document that an object's members make: all their fields, flattened.
-abbrev pub document_with : Members → Fields
-document_with ms = with_fields [] (members_fields [] ms)
+abbrev pub document_of_members : Members → Fields
+document_of_members ms = with_all_fields [] (members_fields [] ms)
 
 -- An object is admitted as a document: nested at most 64 deep, with integers, keys and paths that may be, and with at most 4,096 fields.
 abbrev pub is_admitted : Members → Bool
 is_admitted ms =
-    nat_le (depth (object ms)) 64 && has_integers (object ms) && has_paths [] (object ms) && nat_le (length (document_with ms)) 4096
+    nat_le (depth (object ms)) 64 && has_integers (object ms) && has_paths [] (object ms) && nat_le (length (document_of_members ms)) 4096
 
 -- The document that a tree is, where it is an admitted object.
 abbrev pub document_of : Data → Option Fields
-document_of (object ms) = if is_admitted ms then Some (document_with ms) else None
+document_of (object ms) = if is_admitted ms then Some (document_of_members ms) else None
 document_of null = None
 document_of (boolean b) = None
 document_of (number n) = None

@@ -22,5 +22,5 @@ abbrev mutual
   members_fields path (member key d ms) = fields_under (dotted path key) d ++ members_fields path ms
 
 -- The document with these fields put in, one after another.
-abbrev pub with_fields : Fields → Fields → Fields
-with_fields doc fields = fold (λ so_far field. with_field so_far field.0 field.1) doc fields
+abbrev pub with_all_fields : Fields → Fields → Fields
+with_all_fields doc fields = fold (λ so_far field. with_field so_far field.0 field.1) doc fields

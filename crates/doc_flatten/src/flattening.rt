@@ -2,7 +2,7 @@ ghost use Rattle.std.specs.Prelude.{◌≡◌, ◌≤◌, true, false, IfOk, OnO
 ghost use Rattle.serde_json.specs.View.{view, members_view};
 ghost use Rattle.doc_values.specs.Doc.{with_field};
 ghost use Rattle.doc_values.specs.Value.{IsStorable};
-ghost use Rattle.doc_flatten.specs.Fields.{fields_under, members_fields, with_fields};
+ghost use Rattle.doc_flatten.specs.Fields.{fields_under, members_fields, with_all_fields};
 ghost use Rattle.doc_flatten.specs.Documents.{document_of};
 ghost use Rattle.doc_flatten.specs.Walk.{fits_in, members_fit_in};
 
@@ -68,7 +68,7 @@ impl Flattening {
     fn add_tree(&mut self, tree: &Json, levels: u8) -> Result<(), FlattenFault>
         requires { length self.old.doc ≤ 4096 }
         ensures ok { OnOk result (self.new.doc
-            ≡ with_fields self.old.doc (fields_under self.old.path (view tree.now))) }
+            ≡ with_all_fields self.old.doc (fields_under self.old.path (view tree.now))) }
         ensures few { OnOk result (length self.new.doc ≤ 4096) }
         ensures stays { OnOk result (self.new.path ≡ self.old.path) }
         ensures admitted { OnOk result
@@ -101,7 +101,7 @@ impl Flattening {
     fn add_members(&mut self, members: &Map<String, Json>, levels: u8) -> Result<(), FlattenFault>
         requires { length self.old.doc ≤ 4096 }
         ensures ok { let all = members_view members.now.entries in OnOk result (self.new.doc
-            ≡ with_fields self.old.doc (members_fields self.old.path all)) }
+            ≡ with_all_fields self.old.doc (members_fields self.old.path all)) }
         ensures few { OnOk result (length self.new.doc ≤ 4096) }
         ensures stays { OnOk result (self.new.path ≡ self.old.path) }
         ensures admitted { let all = members_view members.now.entries in OnOk result

@@ -1,8 +1,8 @@
 //! JSON texts as documents: nested objects become dotted names, arrays their compact text.
 //!
 //! Reading answers exactly the documents that the text stands for, or the number of the first one that is
-//! excluded. This crate knows nothing of where the documents go. Read `specs/Tree.antt` first, then
-//! `specs/Fields.antt` and `specs/Documents.antt`.
+//! excluded, or that memory was wanting. This crate knows nothing of where the documents go. Read `specs/Tree.antt`
+//! first, then `specs/Fields.antt` and `specs/Documents.antt`.
 #![tactic(auto)]
 
 mod flatten_fault;

@@ -1,8 +1,8 @@
 //! Values, the documents that hold them, and the text of a value in an answer.
 //!
-//! A document is a finite map from names to values: that is the one promise of this crate, with the exact
-//! text of each value. It knows nothing of where a document comes from, how it is stored or who asks.
-//! Read `specs/Value.antt` first, then `specs/Doc.antt`.
+//! A document is a finite map from names to values, and values are in one total order: that is the promise of this crate,
+//! with the exact text and weight of each value. It knows nothing of where a document comes from, how it is stored or who
+//! asks. Read `specs/Value.antt` first, then `specs/Doc.antt` and `specs/Order.antt`.
 #![tactic(auto)]
 
 mod argv;

@@ -3,3 +3,4 @@ pub mod Firsts
 pub mod Sorting
 pub mod Comparing
 pub mod WholeLines
+pub mod LimitFirst

@@ -15,6 +15,7 @@ use Rattle.exec_finish.specs.Fed.{value_fed, field_fed, row_fed}
 
 -- ---- the laws of an equivalence
 
+-- Being the same field is an equivalence.
 fields_equivalence : IsEquivalence is_same_field
 fields_equivalence = and_equiv (on_equiv (λ f. f.0) nat_list_eq_equiv) (on_equiv (λ f. f.1) (eq_by_cmp_equiv (on_total Some IsTotalOrder-total_order)))
 
@@ -24,21 +25,25 @@ is_alike_equivalence = and_equiv (on_equiv (λ r. r.items) (lists_equiv (eq_by_c
 
 -- ---- alike is equal
 
+-- The order has two items equal exactly where they are.
 items_decide : (a b : Option Value) → Decides (eq_by_cmp total_order a b) (a ≡ b)
 items_decide a b =
     let o = Equal-is (total_order a b) in
     let t = tells_apart a b in
     (λ e. t.0 (o.0 e), λ e. o.1 (t.1 e))
 
+-- The same of two values.
 values_decide : (a b : Value) → Decides (eq_by_cmp value_order a b) (a ≡ b)
 values_decide a b =
     let d = items_decide (Some a) (Some b) in
     (λ e. ap (λ o. unwrap_or o a) (d.0 e), λ e. d.1 (ap Some e))
 
+-- Two tests that are true are true together.
 both : (a b : Bool) → a ≡ true → b ≡ true → a && b ≡ true
 both true b p q = q
 both false b p q = p
 
+-- Two fields are the same exactly where they are equal.
 fields_decide : (f g : List ℕ × Value) → Decides (is_same_field f g) (f ≡ g)
 fields_decide f g =
     let name = bytes_decides f.0 g.0 in
@@ -47,6 +52,7 @@ fields_decide f g =
       λ e. both (bytes_eq f.0 g.0) (eq_by_cmp value_order f.1 g.1) (name.1 (ap (λ p. p.0) e)) (value.1 (ap (λ p. p.1) e)),
     )
 
+-- So are two documents, where there are any.
 docs_decide : (a b : Option Fields) → Decides (option_eq (pointwise is_same_field) a b) (a ≡ b)
 docs_decide None None = (λ e. refl, λ e. refl)
 docs_decide None (Some b) = (λ e. absurd (true≢false (sym e)), λ e. absurd (true≢false (sym (ap is_some e))))

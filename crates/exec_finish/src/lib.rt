@@ -18,5 +18,7 @@ mod tests;
 mod values;
 
 pub use finishing::finish;
-pub use laws::{answers_are_lines, rows_alike_are_equal, sorting_is_stable};
+pub use laws::{
+    a_limit_may_come_first, answers_are_lines, rows_alike_are_equal, sorting_is_stable,
+};
 pub use values::plain_values;

@@ -7,7 +7,7 @@ use Rattle.sql_eval.specs.Truth.{truth_of}
 use Rattle.sql_eval.specs.Resolved.{value_over}
 use Rattle.sql_eval.specs.Contents.{Cells}
 
--- A test keeps what it is true of, and not what it is unknown of.
+-- A test keeps what it is true of, and not what it is false or unknown of.
 abbrev pub keeps : Truth → Bool
 keeps True = true
 keeps False = false

@@ -5,7 +5,7 @@ use Rattle.std.proofs.Math.Seq.{take-add}
 use Rattle.std.proofs.lemmas.List.{length-drop, length-take-le, append-nil, take-append-drop, drop-drop, take_all, length-map}
 use Rattle.reservoir_record.specs.declared.fields.Field.{Field}
 use Rattle.reservoir_record.specs.Spelling.{number_bytes, numbers, values, offsets, Ascends, Spells, spelling, IsRecord}
-use Rattle.reservoir_record.specs.Words.{number_at, offset_at, value_at, HasNumbers, IsTable}
+use Rattle.reservoir_record.specs.Words.{number_at, offset_at, value_at, HasNumbers, IsWholeTable}
 use Rattle.reservoir_record.specs.Walking.{fields_from}
 use Rattle.reservoir_record.proofs.FourBytes.{AreBytes, number_bytes-word_at}
 use Rattle.reservoir_record.proofs.Lists.{numbers_small, numbers_rise, longer}
@@ -39,7 +39,7 @@ pub record Inside (bytes : List ℕ) (count : ℕ) : Type 0 where
   pub room : (k : ℕ) → k ≤ count → 8 + 8 * count + offset_at bytes count k ≤ length bytes
   pub rise : (k : ℕ) → k < count → offset_at bytes count k ≤ offset_at bytes count (k + 1)
 
-pub inside : (bytes : List ℕ) (count : ℕ) → IsTable bytes count → Inside bytes count
+pub inside : (bytes : List ℕ) (count : ℕ) → IsWholeTable bytes count → Inside bytes count
 inside bytes count t = record {
   room = λ k le. omega (arith, t.placed.last, below_last bytes count t.placed.rise (count - k) k (omega arith));
   rise = t.placed.rise;
@@ -91,7 +91,7 @@ four_parts m n bytes =
     sym (ap (λ (r : List ℕ). take 4 bytes ++ (take m (drop 4 bytes) ++ r)) last ∙ ap (λ (r : List ℕ). take 4 bytes ++ r) middle ∙ take-append-drop 4 bytes)
 
 -- a table with its values is a record
-pub made : (bytes : List ℕ) (count : ℕ) → AreBytes bytes → IsTable bytes count → IsRecord bytes
+pub made : (bytes : List ℕ) (count : ℕ) → AreBytes bytes → IsWholeTable bytes count → IsRecord bytes
 made bytes count small t =
     let i : Inside bytes count = inside bytes count t in
     let fields : List Field = fields_from bytes count count 0 in
@@ -119,7 +119,7 @@ made bytes count small t =
     )
 
 -- a record is a table with its values
-pub table : (fields : List Field) (bytes : List ℕ) → Spells fields bytes → IsTable bytes (length fields)
+pub table : (fields : List Field) (bytes : List ℕ) → Spells fields bytes → IsWholeTable bytes (length fields)
 table fields bytes s =
     let in_ : Told fields bytes = told fields bytes s in
     let long : length (numbers fields) ≡ length fields = length-map fields (λ (f : Field). f.id) in

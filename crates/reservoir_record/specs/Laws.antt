@@ -4,7 +4,7 @@ use Rattle.reservoir_record.specs.declared.fields.Field.{Field}
 use Rattle.reservoir_record.specs.Spelling.{Spells, AreFields, ArePartsOf}
 use Rattle.reservoir_record.specs.Walking.{fields_in}
 
--- A list of fields has one spelling.
+-- A list of fields within the bounds of a record has one spelling.
 abbrev pub HasOneSpelling : Type 0
 HasOneSpelling = (fields : List Field) → AreFields fields → (bytes : List ℕ) × Spells fields bytes × ((other : List ℕ) → Spells fields other → other ≡ bytes)
 

@@ -31,7 +31,7 @@ pub record HasOffsets (bytes : List ℕ) (count : ℕ) : Type 0 where
   pub fit : offset_at bytes count count ≤ 16777216
 
 -- The bytes are a table with its values.
-pub record IsTable (bytes : List ℕ) (count : ℕ) : Type 0 where
+pub record IsWholeTable (bytes : List ℕ) (count : ℕ) : Type 0 where
   pub room : 8 + 8 * count ≤ length bytes
   pub counted : word_at bytes 0 ≡ count
   pub numbered : HasNumbers bytes count

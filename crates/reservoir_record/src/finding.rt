@@ -1,6 +1,6 @@
 ghost use Rattle.std.specs.Prelude.{ℕ, ◌≡◌, ◌+◌, ◌-◌, ◌*◌, ◌≤◌, ◌<◌, ◌^◌, length, List, IfOk, IfErr, option_copied};
 ghost use Rattle.reservoir_record.specs.Spelling.{Spells, IsRecord};
-ghost use Rattle.reservoir_record.specs.Words.{IsTable, HasNumbers};
+ghost use Rattle.reservoir_record.specs.Words.{IsWholeTable, HasNumbers};
 ghost use Rattle.reservoir_record.specs.Finding.{value_of, StandsAt, FitsAt};
 ghost use Rattle.reservoir_record.specs.declared.fields.Field.{Field};
 

@@ -1,7 +1,7 @@
 // Laws of the definitions, for the crates above.
 ghost use Rattle.reservoir_record.specs.Laws.{HasOneSpelling, HasOneList, HasPartsOfOneMore, HasFieldsInPlace};
 
-/// A list of fields has one spelling.
+/// A list of fields within the bounds of a record has one spelling.
 pub fn a_list_has_one_spelling()
     ensures { HasOneSpelling }
 {}

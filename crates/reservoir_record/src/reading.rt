@@ -1,6 +1,6 @@
 ghost use Rattle.std.specs.Prelude.{ℕ, ◌≡◌, ◌+◌, ◌-◌, ◌*◌, ◌≤◌, ◌<◌, ◌^◌, List, Some, None, length, slice_get, option_copied, IfOk, IfErr};
 ghost use Rattle.reservoir_record.specs.Spelling.{Spells, IsRecord};
-ghost use Rattle.reservoir_record.specs.Words.{IsTable, value_at};
+ghost use Rattle.reservoir_record.specs.Words.{IsWholeTable, value_at};
 ghost use Rattle.reservoir_record.specs.Finding.{value_of, StandsAt, FitsAt};
 ghost use Rattle.reservoir_record.specs.declared.fields.Field.{Field};
 
@@ -14,7 +14,7 @@ use std::sync::ledger::{Blank, Ledger};
 pub fn count(bytes: &[u8]) -> u32
     requires { IsRecord bytes.now }
     ensures exact { (fields : List Field) → Spells fields bytes.now → result ≡ length fields }
-    ensures table { IsTable bytes.now result }
+    ensures table { IsWholeTable bytes.now result }
 {
     word(bytes, 0)
 }
@@ -62,7 +62,7 @@ pub(crate) fn place_with<L: Ledger>(bytes: &[u8], id: u32, blank: Blank) -> Resu
 
 /// The value at a place of a table of so many fields.
 pub(crate) fn value(bytes: &[u8], count: usize, place: usize) -> &[u8]
-    requires table { IsTable bytes.now count }
+    requires table { IsWholeTable bytes.now count }
     requires within { place < count }
     requires small { count < 2 ^ 32 }
     ensures exact { result.now ≡ value_at bytes.now count place }

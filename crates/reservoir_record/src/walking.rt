@@ -1,5 +1,5 @@
 ghost use Rattle.std.specs.Prelude.{ℕ, ◌≡◌, ◌<◌, ◌≤◌, ◌^◌};
-ghost use Rattle.reservoir_record.specs.Words.{IsTable};
+ghost use Rattle.reservoir_record.specs.Words.{IsWholeTable};
 
 use crate::reading::value;
 use crate::word::word;
@@ -10,7 +10,7 @@ pub struct Walk<'a> {
     bytes: &'a [u8],
     count: usize,
     place: usize,
-    ghost table: { IsTable bytes.now count },
+    ghost table: { IsWholeTable bytes.now count },
     ghost within: { place ≤ count },
     ghost small: { count < 2 ^ 32 },
 }
@@ -22,7 +22,7 @@ impl<'a> Walk<'a> {
     ghost use Rattle.reservoir_record.specs.declared.fields.Field.{Field};
 
     pub(crate) fn new(bytes: &'a [u8], count: usize) -> Self
-        requires table { IsTable bytes.now count }
+        requires table { IsWholeTable bytes.now count }
         requires small { count < 2 ^ 32 }
         ensures exact { (fields : List Field) → Spells fields bytes.now → left_of result ≡ fields }
     {

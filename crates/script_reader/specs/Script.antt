@@ -47,7 +47,7 @@ script_of bytes =
     if nat_lt most_script_bytes (length bytes) then Err (record { line = 0; why = why.TheVariants.Size })
     else unless_fault (first_fault 1 (map said (pieces_of bytes))) (lines_behind [] (map said (pieces_of bytes)))
 
--- The rules that the lines of a script keep: each is the line that its statement makes behind those before it, by a session that there is, and there are at most as many as a script has bytes.
+-- The rules that the lines of a script keep: each is the line that its statement makes behind those before it, by a session that there is, and there are at most as many as a script may have bytes.
 pub record IsScript (lines : List Line) : Type 0 where
   pub behind : (k : ℕ) (line : Line) → slice_get lines k ≡ Some line → line ≡ line_behind (take k lines) line.session line.text
   pub known : (k : ℕ) (line : Line) → slice_get lines k ≡ Some line → IsSession line.session

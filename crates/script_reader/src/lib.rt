@@ -1,7 +1,7 @@
 //! Scripts: bytes as a list of lines, each a statement's text that a session says.
 //!
-//! Reading answers the one script that the bytes are, or the one fault for which they are none. This crate
-//! knows nothing of what a statement means. Read `specs/Pieces.antt` first, then `specs/Script.antt`.
+//! Reading answers the one script that the bytes are, or the one fault for which they are none, or that memory was
+//! wanting. This crate knows nothing of what a statement means. Read `specs/Pieces.antt` first, then `specs/Script.antt`.
 #![tactic(auto)]
 
 mod draft;

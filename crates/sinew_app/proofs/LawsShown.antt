@@ -9,7 +9,7 @@ use Rattle.script_reader.specs.declared.line.Line.{Line}
 use Rattle.exec_finish.specs.Lines.{IsLines}
 use Rattle.exec_finish.specs.Answer.{line}
 use Rattle.commit_core.specs.declared.reply.Reply.{Reply}
-use Rattle.sinew_app.specs.Printing.{name_of, name_in, answer_text, answers_text, commits_text, count_text}
+use Rattle.sinew_app.specs.Printing.{name_of, name_in, reply_text, replies_text, commits_text, count_text}
 use Rattle.sinew_app.proofs.LawsCuts.{Free, cut, decimal_free, free_append, Marked, cut_bodies}
 use Rattle.sinew_app.proofs.LawsOneRun.{there}
 
@@ -21,22 +21,22 @@ pub record Readable (reply : Reply) : Type 0 where
   pub lines : IsLines reply.body
 
 answer_flat : (l : Line) (reply : Reply) (more : List ℕ) →
-    answer_text l reply ++ more ≡ 35 ∷ (name_of l ++ (32 ∷ 64 ∷ (decimal reply.at ++ 10 ∷ (reply.body ++ more))))
+    reply_text l reply ++ more ≡ 35 ∷ (name_of l ++ (32 ∷ 64 ∷ (decimal reply.at ++ 10 ∷ (reply.body ++ more))))
 answer_flat l reply more = simp append_assoc
 
 answers_flat : (l : Line) (ls : List Line) (reply : Reply) (replies : List Reply) (x : List ℕ) →
-    answers_text (l ∷ ls) (reply ∷ replies) ++ x ≡ 35 ∷ (name_of l ++ (32 ∷ 64 ∷ (decimal reply.at ++ 10 ∷ (reply.body ++ (answers_text ls replies ++ x)))))
+    replies_text (l ∷ ls) (reply ∷ replies) ++ x ≡ 35 ∷ (name_of l ++ (32 ∷ 64 ∷ (decimal reply.at ++ 10 ∷ (reply.body ++ (replies_text ls replies ++ x)))))
 answers_flat l ls reply replies x =
-    append_assoc (answer_text l reply) (answers_text ls replies) x ∙ answer_flat l reply (answers_text ls replies ++ x)
+    append_assoc (reply_text l reply) (replies_text ls replies) x ∙ answer_flat l reply (replies_text ls replies ++ x)
 
-answers_marked : (ls : List Line) (replies : List Reply) (x : List ℕ) → Marked x → Marked (answers_text ls replies ++ x)
+answers_marked : (ls : List Line) (replies : List Reply) (x : List ℕ) → Marked x → Marked (replies_text ls replies ++ x)
 answers_marked [] replies x m = m
 answers_marked (l ∷ ls) [] x m = m
 answers_marked (l ∷ ls) (reply ∷ replies) x m = subst (λ (text : List ℕ). Marked text) (sym (answers_flat l ls reply replies x)) refl
 
 -- The number of each answer shows, and so does what stands behind the answers.
 pub answers_shown : (ls : List Line) (ps qs : List Reply) (x y : List ℕ) → length ps ≡ length ls → length qs ≡ length ls →
-    AllByRecursion Readable ps → AllByRecursion Readable qs → Marked x → Marked y → answers_text ls ps ++ x ≡ answers_text ls qs ++ y →
+    AllByRecursion Readable ps → AllByRecursion Readable qs → Marked x → Marked y → replies_text ls ps ++ x ≡ replies_text ls qs ++ y →
     (map (λ (reply : Reply). reply.at) ps ≡ map (λ (reply : Reply). reply.at) qs) × (x ≡ y)
 answers_shown [] [] [] x y ea eb ra rb p q e = (refl, e)
 answers_shown [] [] (b ∷ qs) x y ea eb ra rb p q e = absurd (omega arith)
@@ -44,8 +44,8 @@ answers_shown [] (a ∷ ps) qs x y ea eb ra rb p q e = absurd (omega arith)
 answers_shown (l ∷ ls) [] qs x y ea eb ra rb p q e = absurd (omega arith)
 answers_shown (l ∷ ls) (a ∷ ps) [] x y ea eb ra rb p q e = absurd (omega arith)
 answers_shown (l ∷ ls) (a ∷ ps) (b ∷ qs) x y ea eb ra rb p q e =
-    let more-a = a.body ++ (answers_text ls ps ++ x) in
-    let more-b = b.body ++ (answers_text ls qs ++ y) in
+    let more-a = a.body ++ (replies_text ls ps ++ x) in
+    let more-b = b.body ++ (replies_text ls qs ++ y) in
     let flat : 35 ∷ (name_of l ++ (32 ∷ 64 ∷ (decimal a.at ++ 10 ∷ more-a))) ≡ 35 ∷ (name_of l ++ (32 ∷ 64 ∷ (decimal b.at ++ 10 ∷ more-b))) =
     sym (answers_flat l ls a ps x) ∙ (e ∙ answers_flat l ls b qs y) in
     let named = append_cancel_left (name_of l) (32 ∷ 64 ∷ (decimal a.at ++ 10 ∷ more-a)) (32 ∷ 64 ∷ (decimal b.at ++ 10 ∷ more-b)) (cc) in

@@ -7,10 +7,10 @@ use Rattle.std.proofs.lemmas.Option.{slice_get_past, slice_get_read}
 use denote.Ref.{Bor}
 use Rattle.script_reader.specs.declared.line.Line.{Line}
 use Rattle.commit_core.specs.declared.reply.Reply.{Reply}
-use Rattle.sinew_app.specs.Printing.{answers_text, commit_text, commits_text}
+use Rattle.sinew_app.specs.Printing.{replies_text, commit_text, commits_text}
 
 -- Nothing is printed once either list is at its end.
-answers_end : (lines : List Line) (replies : List Reply) (n : ℕ) → n ≡ min (length lines) (length replies) → answers_text (drop n lines) (drop n replies) ≡ []
+answers_end : (lines : List Line) (replies : List Reply) (n : ℕ) → n ≡ min (length lines) (length replies) → replies_text (drop n lines) (drop n replies) ≡ []
 answers_end [] replies zero e = refl
 answers_end [] replies (suc n) e = refl
 answers_end (l ∷ lines) [] zero e = refl
@@ -19,7 +19,7 @@ answers_end (l ∷ lines) (r ∷ replies) zero e = absurd (omega arith)
 answers_end (l ∷ lines) (r ∷ replies) (suc n) e = answers_end lines replies n (omega arith)
 
 pub answers_done : (lines : List Line) (replies : List Reply) (n : ℕ) (out all : List ℕ) → n ≡ min (length lines) (length replies) →
-    out ++ answers_text (drop n lines) (drop n replies) ≡ all → out ≡ all
+    out ++ replies_text (drop n lines) (drop n replies) ≡ all → out ≡ all
 answers_done lines replies n out all e printed =
     sym (append-nil out) ∙ (ap (λ (rest : List ℕ). out ++ rest) (sym (answers_end lines replies n e)) ∙ printed)
 

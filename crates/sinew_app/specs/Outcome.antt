@@ -16,7 +16,7 @@ pub record WasRead (left_before left_after : Option (List ℕ)) (input : List �
   pub gave : Gave left_before left_after input
   pub whole : ((length input ≤ most_script_bytes) × NothingLeft left_after) ⊎ (length input ≡ most_script_bytes + 1)
 
--- The input is a script, the run is its serial run, and the store has the commits of its order.
+-- The input is a script, the run is its serial run, and the texts of the store's commits are those of its order, place by place.
 pub record WasRun (input : List ℕ) (lines : List Line) (run : Run) (commits : List Entry) : Type 0 where
   pub script : script_of input ≡ Ok lines
   pub serial : IsSerial lines run
@@ -45,7 +45,7 @@ pub record IsRefused (left_before left_after taken_before taken_after : Option (
 abbrev pub TookFront : Option (List ℕ) → Option (List ℕ) → List ℕ → Type 0
 TookFront taken_before taken_after output = (n : ℕ) × (n + 1 ≤ length output) × Took taken_before taken_after (take n output)
 
--- The writing broke off: in the printing of the run, whose commits the store has, or in the line of a refusal, with no commit.
+-- The writing broke off: in the printing of the run, the texts of whose order are those of the store's commits, or in the line of a refusal, with no commit.
 pub data IsBroken (left_before left_after taken_before taken_after : Option (List ℕ)) (commits : List Entry) : Type 0 where
   in_printing : (input : List ℕ) (lines : List Line) (run : Run) → Gave left_before left_after input → NothingLeft left_after →
       WasRun input lines run commits → TookFront taken_before taken_after (printing lines run) →

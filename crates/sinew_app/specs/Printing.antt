@@ -17,14 +17,14 @@ name_in None = []
 name_in (Some l) = name_of l
 
 -- An answer: the line's name with its number of commits, and the lines of the reply.
-abbrev pub answer_text : Line → Reply → List ℕ
-answer_text l reply = line (codes "#" ++ (name_of l ++ (codes " @" ++ decimal reply.at))) ++ reply.body
+abbrev pub reply_text : Line → Reply → List ℕ
+reply_text l reply = line (codes "#" ++ (name_of l ++ (codes " @" ++ decimal reply.at))) ++ reply.body
 
 -- The answers, in the order of the script.
-abbrev pub answers_text : List Line → List Reply → List ℕ
-answers_text [] replies = []
-answers_text (l ∷ ls) [] = []
-answers_text (l ∷ ls) (reply ∷ replies) = answer_text l reply ++ answers_text ls replies
+abbrev pub replies_text : List Line → List Reply → List ℕ
+replies_text [] replies = []
+replies_text (l ∷ ls) [] = []
+replies_text (l ∷ ls) (reply ∷ replies) = reply_text l reply ++ replies_text ls replies
 
 -- A commit: its number, and the name of its line.
 abbrev pub commit_text : ℕ → Option Line → List ℕ
@@ -41,7 +41,7 @@ count_text commits = line (codes ". " ++ decimal commits)
 
 -- What is printed of a script and a run: the answers, the commits in their order, and how many there are.
 abbrev pub printing : List Line → Run → List ℕ
-printing lines run = answers_text lines run.answers ++ (commits_text lines 1 run.order ++ count_text (length run.order))
+printing lines run = replies_text lines run.answers ++ (commits_text lines 1 run.order ++ count_text (length run.order))
 
 -- What is printed for bytes that are no script.
 abbrev pub refusal_text : ScriptFault → List ℕ

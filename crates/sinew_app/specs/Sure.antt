@@ -9,7 +9,7 @@ use Rattle.sinew_app.specs.Run.{Run}
 use Rattle.sinew_app.specs.Printing.{printing, refusal_text}
 use Rattle.sinew_app.specs.Outcome.{WasRead, WasRun}
 
--- The text was read whole and is a script, and the sink took the printing of its serial run, whose commits the store has.
+-- The text was read whole and is a script, and the sink took the printing of its serial run, the texts of whose order are those of the store's commits.
 pub record PrintsRun (text left : List ℕ) (taken_before taken_after : Option (List ℕ)) (commits : List Entry) : Type 0 where
   pub whole : left ≡ []
   pub lines : List Line

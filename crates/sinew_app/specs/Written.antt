@@ -8,7 +8,7 @@ use Rattle.commit_core.specs.declared.entry.Entry.{Entry}
 use Rattle.sinew_app.specs.Run.{Run, IsSerial, texts_at}
 use Rattle.sinew_app.specs.Printing.{printing}
 
--- The printing of the serial run of the lines was written, or a front of it, and the store has the commits of its order.
+-- The printing of the serial run of the lines was written, or a front of it, and the texts of the store's commits are those of its order.
 pub record WritesRun (written : Written) (taken_before taken_after : Option (List ℕ)) (lines : List Line) (commits : List Entry) : Type 0 where
   pub run : Run
   pub serial : IsSerial lines run

@@ -1,7 +1,7 @@
 //! Whole runs: a script from a source, its lines run one after another, the output to a sink.
 //!
-//! What the sink takes is the printing of one legal run of the script that the source gave. This crate knows
-//! nothing of how a store keeps its documents. Read `specs/Run.antt` first: which runs are legal; then
+//! Where a run is done, what the sink took is the printing of one legal run of the script that the source gave. This
+//! crate knows nothing of how a store keeps its documents. Read `specs/Run.antt` first: which runs are legal; then
 //! `specs/Printing.antt` and `specs/Outcome.antt`.
 #![tactic(auto)]
 

@@ -21,7 +21,7 @@ impl Model for Output {
 }
 
 impl Output {
-    ghost use Rattle.sinew_app.specs.Printing.{name_of, name_in, answer_text, commit_text, count_text, refusal_text};
+    ghost use Rattle.sinew_app.specs.Printing.{name_of, name_in, reply_text, commit_text, count_text, refusal_text};
 
     pub fn new(alloc: Global) -> Output
         ensures exact { result ≡ [] }
@@ -39,7 +39,7 @@ impl Output {
 
     /// With the answer to a line.
     pub fn answer(self, line: &Line, reply: &Reply) -> Result<Output, AllocError>
-        ensures ok { IfOk result (λ out. out ≡ self ++ answer_text line.now reply.now) }
+        ensures ok { IfOk result (λ out. out ≡ self ++ reply_text line.now reply.now) }
     {
         self.text("#")?
             .name(line)?

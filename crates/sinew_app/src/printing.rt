@@ -1,5 +1,5 @@
 ghost use Rattle.std.specs.Prelude.{◌≡◌, ◌++◌, IfOk};
-ghost use Rattle.sinew_app.specs.Printing.{answers_text, commits_text, printing};
+ghost use Rattle.sinew_app.specs.Printing.{replies_text, commits_text, printing};
 
 use crate::output::Output;
 use crate::ran::Ran;
@@ -17,7 +17,7 @@ pub fn print_run(alloc: Global, lines: &[Line], run: &Ran) -> Result<Output, All
 }
 
 fn print_answers(mut out: Output, lines: &[Line], replies: &[Reply]) -> Result<Output, AllocError>
-    ensures ok { IfOk result (λ all. all ≡ out ++ answers_text lines.now replies.now) }
+    ensures ok { IfOk result (λ all. all ≡ out ++ replies_text lines.now replies.now) }
 {
     for (line, reply) in lines.iter().zip(replies) {
         out = out.answer(line, reply)?;

@@ -39,7 +39,7 @@ pub fn sinew_serial<S: Source, W: Sink>(
     ensures read_cause { HasCause (S.faults source.old) (S.faults source.new) (result ≡ Status.Read) }
     ensures write_cause { HasCause (W.faults sink.old) (W.faults sink.new) (result ≡ Status.Write) }
 
-    // Where neither count rose, the input alone decides, or memory was wanting.
+    // Where the source tells its bytes and neither count rose, the input alone decides, or memory was wanting.
     ensures complete { (input : List ℕ) → S.left source.old ≡ Some input →
         (Rose (S.faults source.old) (S.faults source.new) → ⊥) → (Rose (W.faults sink.old) (W.faults sink.new) → ⊥) →
         IsDecided (script_of input) result }

@@ -36,7 +36,7 @@ abbrev pub comparison : CompareOp → Option value.Value → Option value.Value 
 comparison op (Some a) (Some b) = tested (option_map (admits op) (compared a b))
 comparison op _ _ = Unknown
 
--- LIKE: unknown on NULL.
+-- LIKE: unknown on NULL; a value of another kind than Text is as NULL there.
 abbrev pub likeness : Option value.Value → List ℕ → Truth
 likeness (Some (value.TheVariants.Text text)) pattern = tested (Some (is_like text pattern))
 likeness _ pattern = Unknown

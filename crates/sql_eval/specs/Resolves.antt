@@ -35,11 +35,11 @@ beside other t = wanted_beside (own_kind t) other
 abbrev pub denied_if : Bool → Term → Term
 denied_if negated t = if negated then term.Not t else t
 
--- IN written out: the OR of the comparisons with each member.
+-- IN written out: the OR of the comparisons with each member, or NOT of it.
 abbrev pub among_written : Term → List Term → Bool → Term
 among_written t ts negated = denied_if negated (term.Or (map (term.Compare compare_op.Eq t) ts))
 
--- BETWEEN written out: the AND of the comparisons with both ends.
+-- BETWEEN written out: the AND of the comparisons with both ends, or NOT of it.
 abbrev pub between_written : Term → Term → Term → Bool → Term
 between_written t low high negated = denied_if negated (term.And (term.Compare compare_op.Ge t low ∷ term.Compare compare_op.Le t high ∷ []))
 

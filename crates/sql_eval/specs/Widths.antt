@@ -12,7 +12,7 @@ use Rattle.sql_eval.specs.declared.expr.Expr.TheFolds.{fold-Expr, fold-Addend}
 use Rattle.sql_eval.specs.Contents.{Cells}
 use Rattle.sql_eval.specs.Resolved.{cell_at}
 
--- A number that an expression gives is at most 2 to its bits, up and down. The expression is narrow if no number that is computed on the way needs more than 126 bits.
+-- A number that an expression gives is at most 2 to its bits, up and down. The expression is narrow if no number that is computed on the way needs more than 126 bits, and no numeral in it is above 2 to the 63.
 pub record Width : Type 0 where
   pub bits : ℕ
   pub narrow : Bool
@@ -42,7 +42,7 @@ aggregate_bits tables agg_call.Max bits = bits
 abbrev pub bits_of : List Width → List ℕ
 bits_of parts = map (λ p. p.bits) parts
 
--- One level of an expression over so many tables. What is no number needs no bits; a numeral is at most 2 to the 63.
+-- One level of an expression over so many tables. A column and NULL have 63 bits, of whatever kind, and so has a numeral; what else is no number has none.
 abbrev pub width_step : ℕ → Expr-F Width Width → Width
 width_step tables (Expr-F.Number n) = record { bits = 63; narrow = nat_le n 9223372036854775808 }
 width_step tables (Expr-F.Text text) = over 0 []

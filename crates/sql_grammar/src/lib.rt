@@ -1,7 +1,8 @@
 //! The grammar of the query language: which texts spell which statements, and the reading of a text.
 //!
-//! Its one promise is that `parse` gives the one statement that a text spells, and says so where it spells none. It knows
-//! nothing of documents, of kinds that fit, of what a statement means, or of how one is printed.
+//! Its one promise is that `parse` gives no other statement than the one that a text spells, and says that there is none
+//! only where it spells none. It knows nothing of documents, of kinds that fit, of what a statement means, or of how one
+//! is printed.
 //! Read `specs/Expression.antt` first, then `specs/Query.antt` and `specs/Statement.antt`.
 #![tactic(auto)]
 

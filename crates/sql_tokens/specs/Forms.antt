@@ -41,7 +41,7 @@ is_double_quote c = c == 34
 abbrev pub is_dot : ℕ → Bool
 is_dot c = c == 46
 
--- A byte that a segment of a quoted name may have: a space or a later one, and no double quote.
+-- A byte that a segment of a quoted name may have: a space or a later one, and no double quote; at dots the name is split.
 abbrev pub is_segment_byte : ℕ → Bool
 is_segment_byte c = nat_le 32 c && not (is_double_quote c)
 

@@ -1,7 +1,7 @@
 //! The tokens of a statement's text: words, quoted names, numerals, texts and symbols, each with its span.
 //!
-//! A text has one list of tokens at most, and `tokens` gives it, or says that there is none. This crate knows
-//! nothing of keywords, of grammar or of what a statement means.
+//! A text has one list of tokens at most; `tokens` gives no other, and says that there is none only where that is so.
+//! This crate knows nothing of keywords, of grammar or of what a statement means.
 //! Read `specs/Forms.antt` first, then `specs/Tokens.antt`.
 #![tactic(auto)]
 

@@ -7,7 +7,6 @@ use Rattle.doc_values.specs.declared.kind.Kind.TheVariants as kind
 use Rattle.doc_values.specs.declared.col_ref.ColRef.{ColRef}
 use Rattle.doc_values.specs.declared.compare_op.CompareOp.{CompareOp}
 use Rattle.doc_values.specs.declared.compare_op.CompareOp.TheVariants as compare_op
-use Rattle.sql_tree.specs.declared.reference.Ref.{Ref}
 use Rattle.sql_tree.specs.declared.addend.Addend.{Addend as TermAddend}
 use Rattle.sql_tree.specs.declared.term.Term.{Term}
 use Rattle.sql_tree.specs.declared.term.Term.TheVariants as term
@@ -19,9 +18,9 @@ use Rattle.sql_eval.specs.declared.expr.Expr.TheFolds.{fold_out-Addend as fold_o
 use Rattle.sql_eval.specs.Kinds.{own_kind, wanted_beside}
 use Rattle.sql_eval.specs.Resolves as resolves
 use Rattle.sql_eval.specs.Resolves.{Resolves, AllResolve, AddendsResolve, beside, denied_if, among_written, between_written}
-use Rattle.type_rules.specs.Names.{refs_step, every_ref, every_ref_in, is_bound}
-use Rattle.type_rules.specs.Uses.{Use, Reader, reader_step, reader_addend, reader_of, addend_uses, uses_beside, pair_uses, among_uses, all_noted}
-use Rattle.type_rules.specs.Steps.{Comes, is_bound_to, are_bound_to, addends_bound_to, IsResolved, AreResolved, AddendsAreResolved, denied_expr, numerals_step, has_numerals, has_numerals_in}
+use Rattle.type_rules.specs.Names.{refs_step, is_bound}
+use Rattle.type_rules.specs.Uses.{Use, Reader, reader_step, reader_addend, reader_of, addend_uses, uses_beside, pair_uses, among_uses}
+use Rattle.type_rules.specs.Steps.{is_bound_to, are_bound_to, addends_bound_to, IsResolved, AreResolved, AddendsAreResolved, denied_expr, numerals_step, has_numerals, has_numerals_in}
 use Rattle.type_rules.proofs.TermFolds as terms
 use Rattle.type_rules.proofs.Made.{compare_made}
 use Rattle.type_rules.proofs.Noting.{and_first, and_second, nothing_noted, and_then, said_so}

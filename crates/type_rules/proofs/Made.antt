@@ -1,17 +1,15 @@
 -- What a term comes to, from what its parts come to: one lemma for each form.
-use Rattle.std.proofs.Common.{◌≡◌, ℕ, Bool, true, false, ◌&&◌, ◌||◌, cond, List, [], ◌∷◌, ◌++◌, map, Option, Some, None, slice_get, refl, sym, ap, subst, ◌∙◌}
-use Rattle.std.specs.List.{list_all, flat_map}
+use Rattle.std.proofs.Common.{◌≡◌, ℕ, Bool, true, false, ◌||◌, cond, List, [], ◌∷◌, ◌++◌, map, Option, Some, None, slice_get, refl, sym, ap, ◌∙◌}
+use Rattle.std.specs.List.{flat_map}
 use Rattle.std.specs.Str.{bytes_eq}
 use Rattle.doc_values.specs.declared.kind.Kind.{Kind}
 use Rattle.doc_values.specs.declared.kind.Kind.TheVariants as kind
 use Rattle.doc_values.specs.declared.col_ref.ColRef.{ColRef}
 use Rattle.doc_values.specs.declared.compare_op.CompareOp.{CompareOp}
-use Rattle.doc_values.specs.declared.compare_op.CompareOp.TheVariants as compare_op
 use Rattle.sql_tree.specs.declared.reference.Ref.{Ref}
 use Rattle.sql_tree.specs.declared.addend.Addend.{Addend as TermAddend}
 use Rattle.sql_tree.specs.declared.term.Term.{Term}
 use Rattle.sql_tree.specs.declared.term.Term.TheVariants as term
-use Rattle.sql_tree.specs.declared.term.Term.TheFolds.{fold_out-Addend}
 use Rattle.sql_eval.specs.declared.slot.Slot.{Slot}
 use Rattle.sql_eval.specs.declared.addend.Addend.{Addend}
 use Rattle.sql_eval.specs.declared.expr.Expr.{Expr}
@@ -20,12 +18,12 @@ use Rattle.sql_eval.specs.Kinds.{own_kind, wanted_beside}
 use Rattle.sql_eval.specs.Resolves as resolves
 use Rattle.sql_eval.specs.Resolves.{Resolves, AllResolve, AddendsResolve, IsReadAt, beside, denied_if, among_written, between_written}
 use Rattle.sql_eval.specs.Meaning.{table_of}
-use Rattle.type_rules.specs.Names.{is_in_scope, refs_step, every_ref, every_ref_in, is_bound}
-use Rattle.type_rules.specs.Uses.{Use, Reader, reader_step, reader_addend, reader_of, addend_uses, all_uses, uses_beside, pair_uses, among_uses, noted, all_noted}
-use Rattle.type_rules.specs.Steps.{IsPlaceOf, Comes, is_bound_to, are_bound_to, addends_bound_to, IsResolved, AreResolved, AddendsAreResolved}
+use Rattle.type_rules.specs.Names.{is_in_scope, refs_step, is_bound}
+use Rattle.type_rules.specs.Uses.{Use, Reader, reader_step, reader_addend, reader_of, addend_uses, all_uses, noted, all_noted}
+use Rattle.type_rules.specs.Steps.{IsPlaceOf, IsResolved, AreResolved, AddendsAreResolved}
 use Rattle.type_rules.proofs.TermFolds as terms
 use Rattle.type_rules.proofs.ColumnsNoted.{place_kept}
-use Rattle.type_rules.proofs.Noting.{and_first, and_second, nothing_noted, and_then, said_so}
+use Rattle.type_rules.proofs.Noting.{and_then, said_so}
 
 -- A term without parts.
 leaf : (c : List ColRef) (w : Option Kind) (t : Term) (e : Expr) → (reader_of t).uses w ≡ [] → ((scope : List (List ℕ)) (refs : List (List ColRef)) → Resolves scope refs w t e) → IsResolved c c w t e

@@ -1,5 +1,5 @@
 -- References that are noted one after the other, and what they come to.
-use Rattle.std.proofs.Common.{◌≡◌, ℕ, Bool, true, false, ◌&&◌, List, [], ◌∷◌, ◌++◌, Option, Some, refl, sym, ap, subst, ◌∙◌}
+use Rattle.std.proofs.Common.{◌≡◌, ℕ, Bool, true, false, ◌&&◌, List, [], ◌∷◌, ◌++◌, refl, sym, ap, subst, ◌∙◌}
 use Rattle.doc_values.specs.declared.col_ref.ColRef.{ColRef}
 use Rattle.type_rules.specs.Uses.{Use, noted, all_noted}
 use Rattle.type_rules.specs.Steps.{Comes}

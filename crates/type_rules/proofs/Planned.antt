@@ -9,7 +9,7 @@ use Rattle.sql_eval.specs.declared.expr.Expr.{Expr}
 use Rattle.sql_eval.specs.Resolves.{AllResolve}
 use Rattle.type_rules.specs.Places.{Place, free, condition, item_terms, key_terms, places_of}
 use Rattle.type_rules.specs.Names.{every_ref, is_bound}
-use Rattle.type_rules.specs.Uses.{Use, Reader, reader_of, place_uses, uses_of}
+use Rattle.type_rules.specs.Uses.{Use, Reader, reader_of, place_uses}
 use Rattle.type_rules.specs.Plan.{ConditionResolves}
 use Rattle.type_rules.specs.Steps.{Comes, is_bound_to, IsResolved, AreResolved, AreParts, places_bound_to}
 use Rattle.sql_eval.specs.declared.key_plan.KeyPlan.{KeyPlan}

@@ -1,17 +1,15 @@
 -- The plan of a question that keeps the rules can be run.
 use Rattle.std.proofs.Common.{◌≡◌, ℕ, Bool, true, false, ◌&&◌, List, [], ◌∷◌, ◌++◌, map, length, Option, Some, None, IfSome, if◌then◌else◌, refl, sym, ap, subst, ◌∙◌}
-use Rattle.std.specs.List.{list_all, All, AllByRecursion}
+use Rattle.std.specs.List.{list_all, AllByRecursion}
 use Rattle.std.proofs.lemmas.List.Elements.{All-from_recursion}
-use Rattle.doc_values.specs.declared.kind.Kind.TheVariants as kind
 use Rattle.doc_values.specs.declared.col_ref.ColRef.{ColRef}
 use Rattle.sql_tree.specs.declared.select.Select.{Select}
 use Rattle.sql_tree.specs.declared.term.Term.{Term}
 use Rattle.sql_eval.specs.declared.expr.Expr.{Expr}
 use Rattle.sql_eval.specs.declared.key_plan.KeyPlan.{KeyPlan}
 use Rattle.sql_eval.specs.declared.select_plan.SelectPlan.{SelectPlan}
-use Rattle.sql_eval.specs.Resolves.{Resolves, AllResolve}
+use Rattle.sql_eval.specs.Resolves.{AllResolve}
 use Rattle.sql_eval.specs.Widths.{width_of, is_plain}
-use Rattle.type_rules.specs.declared.type_fault.TypeFault.{TypeFault}
 use Rattle.type_rules.specs.declared.type_fault.TypeFault.TheVariants.{Name, Wide}
 use Rattle.type_rules.specs.declared.type_fault.TypeFault.TheVariants as fault
 use Rattle.type_rules.specs.Places.{Place, free, condition, item_terms, key_terms, places_of, scope_of}
@@ -24,7 +22,7 @@ use Rattle.type_rules.specs.Plan.{ConditionResolves, IsPlanOf}
 use Rattle.type_rules.specs.Runnable.{every_slot, is_column, IsComputed, CanBeRun}
 use Rattle.type_rules.specs.Steps.{has_numerals, HasNumerals}
 use Rattle.type_rules.proofs.Noting.{and_first, and_second}
-use Rattle.type_rules.proofs.Running.{IsRun, runs, all_run}
+use Rattle.type_rules.proofs.Running.{runs, all_run}
 
 -- Where no rule is broken, each of them is kept.
 pub rules_kept : (n k w : Bool) → (if n then (if k then (if w then None else Some Wide) else Some fault.Kind) else Some Name) ≡ None → (n ≡ true) × (w ≡ true)

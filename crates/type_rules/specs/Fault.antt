@@ -12,7 +12,9 @@ use Rattle.type_rules.specs.Widths.{widths_hold}
 abbrev pub question_fault : Select → Option TypeFault
 question_fault s = if names_hold s then (if kinds_hold s then (if widths_hold s then None else Some Wide) else Some Kind) else Some Name
 
--- The first rule that a statement breaks; a load breaks none.
+-- The first rule that a statement breaks; a load breaks none. No text spells an update or a deletion yet.
 abbrev pub fault_of : statement.Statement → Option TypeFault
+fault_of (statement.TheVariants.Load collection json) = None
 fault_of (statement.TheVariants.Select s) = question_fault s
-fault_of _ = None
+fault_of (statement.TheVariants.Update collection sets test) = None
+fault_of (statement.TheVariants.Delete collection test) = None

@@ -1,5 +1,5 @@
 -- What is promised of a plan for those who run it.
-use Rattle.std.specs.Prelude.{◌≡◌, Bool, true, ◌&&◌, List, length, Option, is_some, option_and_then, slice_get, IfSome}
+use Rattle.std.specs.Prelude.{◌≡◌, Bool, true, ◌&&◌, List, length, is_some, option_and_then, slice_get, IfSome}
 use Rattle.std.specs.List.{All, list_all}
 use Rattle.doc_values.specs.declared.col_ref.ColRef.{ColRef}
 use Rattle.sql_eval.specs.declared.slot.Slot.{Slot}
@@ -36,7 +36,7 @@ every_slot test = fold-Expr Bool Bool (slots_step test) (λ a. a.expr)
 abbrev pub is_column : List (List ColRef) → Slot → Bool
 is_column refs slot = is_some (option_and_then (λ columns. slice_get columns slot.column) (slice_get refs slot.table))
 
--- An expression can be computed from one row of each table: it has no aggregate and no ANY, no number in it needs more than 126 bits, and each slot in it is that of a column that is read.
+-- An expression can be computed from one row of each table: it has no aggregate and no ANY, no number in it needs more than 126 bits, no numeral in it is above 2 to the 63, and each slot in it is that of a column that is read.
 pub record IsComputed (refs : List (List ColRef)) (e : Expr) : Type 0 where
   pub plain : is_plain e ≡ true
   pub narrow : (width_of (length refs) e).narrow ≡ true

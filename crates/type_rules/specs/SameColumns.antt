@@ -14,24 +14,29 @@ use Rattle.type_rules.specs.Uses.{same_want, same_column}
 abbrev pub column_named : List ℕ → Option Kind → ColRef
 column_named name want = record { name = name; want = want }
 
+-- Of two tests that are true together the first is true.
 and_first : (a b : Bool) → (a && b) ≡ true → a ≡ true
 and_first true b h = refl
 and_first false b h = h
 
+-- So is the second.
 and_second : (a b : Bool) → (a && b) ≡ true → b ≡ true
 and_second true b h = h
 and_second false b h = cc
 
+-- A wanted kind is the same as itself.
 want_refl : (a : Option Kind) → same_want a a ≡ true
 want_refl None = refl
 want_refl (Some k) = nat_eq_equiv.refl (rank k)
 
+-- Of two wanted kinds it does not matter which is named first.
 want_symm : (a b : Option Kind) → same_want a b ≡ same_want b a
 want_symm None None = refl
 want_symm None (Some j) = refl
 want_symm (Some k) None = refl
 want_symm (Some k) (Some j) = nat_eq_equiv.symm (rank k) (rank j)
 
+-- Wanted kinds that are the same are told apart from the same others.
 want_congr : (a b c : Option Kind) → same_want a b ≡ true → same_want a c ≡ same_want b c
 want_congr None None c h = refl
 want_congr None (Some j) c h = cc
@@ -39,6 +44,7 @@ want_congr (Some k) None c h = cc
 want_congr (Some k) (Some j) None h = refl
 want_congr (Some k) (Some j) (Some i) h = nat_eq_equiv.congr (rank k) (rank j) (rank i) h
 
+-- Being wanted alike is an equivalence.
 want_equiv : IsEquivalence same_want
 want_equiv = record { refl = want_refl; symm = want_symm; congr = want_congr }
 
@@ -50,6 +56,7 @@ columns_equiv = and_equiv (on_equiv (λ (c : ColRef). c.name) nat_list_eq_equiv)
 abbrev kind_at : ℕ → Kind
 kind_at n = if n == 0 then kind.Bool else if n == 1 then kind.Int else if n == 2 then kind.Text else if n == 3 then kind.Array else kind.Object
 
+-- A kind is the one at its own place.
 kind_at-rank : (k : Kind) → kind_at (rank k) ≡ k
 kind_at-rank kind.Bool = refl
 kind_at-rank kind.Int = refl
@@ -57,9 +64,11 @@ kind_at-rank kind.Text = refl
 kind_at-rank kind.Array = refl
 kind_at-rank kind.Object = refl
 
+-- Numbers that the test has equal are equal.
 same_number : (n m : ℕ) → (n == m) ≡ true → n ≡ m
 same_number n m h = grind (arith, h)
 
+-- Wanted kinds that are not told apart are equal.
 want_same : (a b : Option Kind) → same_want a b ≡ true → a ≡ b
 want_same None None h = refl
 want_same None (Some j) h = cc

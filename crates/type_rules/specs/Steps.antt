@@ -1,13 +1,11 @@
 -- What comes of each step in which a plan is made. This file serves private calls alone.
-use Rattle.std.specs.Prelude.{◌≡◌, ℕ, nat_le, Bool, true, false, ◌&&◌, List, [], ◌∷◌, map, Option, Some, None, slice_get, if◌then◌else◌, IfSome}
+use Rattle.std.specs.Prelude.{◌≡◌, ℕ, nat_le, Bool, true, ◌&&◌, List, [], ◌∷◌, map, Option, Some, None, slice_get, if◌then◌else◌, IfSome}
 use Rattle.std.specs.List.{list_all}
 use Rattle.doc_values.specs.declared.kind.Kind.{Kind}
 use Rattle.doc_values.specs.declared.col_ref.ColRef.{ColRef}
 use Rattle.sql_tree.specs.declared.reference.Ref.{Ref}
 use Rattle.sql_tree.specs.declared.addend.Addend.{Addend as TermAddend}
 use Rattle.sql_tree.specs.declared.term.Term.{Term}
-use Rattle.sql_tree.specs.declared.term.Term.TheOpen.{Term-F}
-use Rattle.sql_tree.specs.declared.term.Term.TheFolds.{fold-Term}
 use Rattle.sql_eval.specs.declared.slot.Slot.{Slot}
 use Rattle.sql_eval.specs.declared.addend.Addend.{Addend}
 use Rattle.sql_eval.specs.declared.expr.Expr.{Expr}
@@ -70,6 +68,8 @@ numerals_step (Expr-F.Like e pattern negated) = e
 numerals_step (Expr-F.Sum es) = list_all (λ e. e) es
 numerals_step (Expr-F.Product es) = list_all (λ e. e) es
 numerals_step (Expr-F.Minus e) = e
+numerals_step (Expr-F.AnyOf e slot) = e
+numerals_step (Expr-F.Aggregate call e) = e
 numerals_step _ = true
 
 -- Each numeral in an expression is at most 2 to the 63.

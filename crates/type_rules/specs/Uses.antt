@@ -38,12 +38,12 @@ uses_beside other p = p.uses (wanted_beside p.own other)
 abbrev pub pair_uses : Reader → Reader → List Use
 pair_uses p q = uses_beside q.own p ++ uses_beside p.own q
 
--- The references of a part that is compared with each of several: once where it has a kind by itself, and else beside each.
+-- The references of a part and of the several with which it is compared: those of the part once where it has a kind by itself, and else anew beside each.
 abbrev pub among_uses : Option Kind → Reader → List Reader → List Use
 among_uses (Some k) p ps = p.uses None ++ flat_map (uses_beside (Some k)) ps
 among_uses None p ps = flat_map (pair_uses p) ps
 
--- One level of a term where a kind is wanted of it, or none: its references, in the order of the text, what stands for several comparisons once for each that wants a kind of its own.
+-- One level of a term where a kind is wanted of it, or none: its references, comparison by comparison: what stands for several comparisons and has no kind by itself comes anew in each.
 abbrev pub uses_step : Term-F Reader (List Use) → Option Kind → List Use
 uses_step (Term-F.Column r) want = record { ref = r; want = want } ∷ []
 uses_step (Term-F.Wanted k r) want = record { ref = r; want = Some k } ∷ []

@@ -1,7 +1,8 @@
 //! The rules that a statement has to keep before it runs, and its plan: names, kinds, and widths of numbers.
 //!
 //! The one promise: a statement is answered the first rule that it breaks, or a plan, each expression of which is one to
-//! which its term resolves over the columns that are read. It knows nothing of texts, stores, rows or answers.
+//! which its term resolves over the columns that are read, or that memory was wanting. It knows nothing of texts, stores,
+//! rows or answers.
 //! Read `specs/Fault.antt` first, then `specs/Names.antt`, `specs/Kinds.antt`, `specs/Widths.antt` and `specs/Plan.antt`.
 #![tactic(auto)]
 

@@ -29,7 +29,7 @@ pub fn typed(alloc: Global, statement: &Statement) -> Result<Typed, TypeFault>
             json: json.copy()?,
         }),
         Statement::Select(select) => Ok(Typed::Select(typed_select(alloc, select)?)),
-        Statement::Update { .. } | Statement::Delete { .. } => Err(TypeFault::Memory),
+        Statement::Update { .. } | Statement::Delete { .. } => unreachable!(),
     }
 }
 

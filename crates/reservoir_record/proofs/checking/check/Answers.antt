@@ -1,5 +1,5 @@
 use Rattle.std.proofs.Common.{rules, ◌≡◌, sym, subst, refl, false, arith}
-use Rattle.reservoir_record.specs.Words.{word_at, HasNumbers, HasOffsets, IsTable}
+use Rattle.reservoir_record.specs.Words.{word_at, HasNumbers, HasOffsets, IsWholeTable}
 use Rattle.reservoir_record.proofs.Checked.{table_of, too_short, no_room, passes, not_both}
 use Rattle.reservoir_record.proofs.checking.check.Goals as goal
 
@@ -17,7 +17,7 @@ returns-then-has_numbers c =
         λ h. passes c.args.bytes.now (search rules) (omega arith)
             (subst (HasNumbers c.args.bytes.now) same (c.has_numbers.ensures.exact.0 c.if-has_numbers.true))
             (subst (HasOffsets c.args.bytes.now) same (c.has_offsets.ensures.exact.0 h)),
-        λ r. let t : IsTable c.args.bytes.now (word_at c.args.bytes.now 0) = table_of c.args.bytes.now r in
+        λ r. let t : IsWholeTable c.args.bytes.now (word_at c.args.bytes.now 0) = table_of c.args.bytes.now r in
             c.has_offsets.ensures.exact.1 (subst (HasOffsets c.args.bytes.now) (sym same) t.placed),
       );
     }
@@ -28,7 +28,7 @@ returns-else-has_numbers c =
     record {
       exact = (
         λ h. absurd (not_both c.has_numbers.result c.if-has_numbers.false h),
-        λ r. let t : IsTable c.args.bytes.now (word_at c.args.bytes.now 0) = table_of c.args.bytes.now r in
+        λ r. let t : IsWholeTable c.args.bytes.now (word_at c.args.bytes.now 0) = table_of c.args.bytes.now r in
             c.has_numbers.ensures.exact.1 (subst (HasNumbers c.args.bytes.now) (sym same) t.numbered),
       );
     }

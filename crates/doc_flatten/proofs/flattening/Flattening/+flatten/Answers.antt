@@ -5,10 +5,10 @@ use Rattle.serde_json.specs.Data.{Data, object, no_members}
 use Rattle.serde_json.specs.View.{view, members_view}
 use Rattle.serde_json.proofs.Views.{Entry, view-Object}
 use Rattle.doc_flatten.specs.Tree.{dotted, is_member}
-use Rattle.doc_flatten.specs.Fields.{fields_under, members_fields, with_fields}
+use Rattle.doc_flatten.specs.Fields.{fields_under, members_fields, with_all_fields}
 use Rattle.doc_flatten.specs.Walk.{fits_in, members_fit_in}
 use Rattle.doc_flatten.proofs.Paths.{take-dotted, IsSplitPoint-dotted}
-use Rattle.doc_flatten.proofs.Steps.{with_fields-append, members_fit_in-more, members_fit_in-not, fields_under-object, fits_in-object}
+use Rattle.doc_flatten.proofs.Steps.{with_all_fields-append, members_fit_in-more, members_fit_in-not, fields_under-object, fits_in-object}
 use Rattle.doc_flatten.proofs.flattening.Flattening.+flatten.Goals as goal
 
 pub add_members-returns-in_err-add_tree-clause-excluded : goal.add_members-returns-in_err-add_tree-clause-excluded
@@ -39,7 +39,7 @@ add_members-loop-key-preserved t c =
     let left = members_view c.next.new.self in
     let placed : c.enter.new.self ≡ dotted path key = c.in_ok-enter.ensures.ok ∙ ap₂ dotted c.loop-key.invariant.stays c.as_str.ensures.value in
     let back : c.add_tree.new.self.path ≡ dotted outer c.as_str.result.now = c.in_ok-add_tree.ensures.stays ∙ c.in_ok-enter.ensures.ok in
-    let put : c.add_tree.new.self.doc ≡ with_fields doc (fields_under (dotted path key) d) = c.in_ok-add_tree.ensures.ok ∙ ap (λ place. with_fields doc (fields_under place d)) placed in
+    let put : c.add_tree.new.self.doc ≡ with_all_fields doc (fields_under (dotted path key) d) = c.in_ok-add_tree.ensures.ok ∙ ap (λ place. with_all_fields doc (fields_under place d)) placed in
     let named : is_member path key ≡ true = ap₂ is_member (sym c.loop-key.invariant.stays) (sym c.as_str.ensures.value) ∙ c.in_ok-enter.ensures.admitted in
     let fits : fits_in c.args.levels (dotted path key) doc d ≡ true = ap (λ place. fits_in c.args.levels place doc d) (sym placed) ∙ c.in_ok-add_tree.ensures.admitted in record {
       stays = rw (c.leave.ensures.exact, c.len-outer.ensures.exact, back) (take-dotted outer c.as_str.result.now ∙ c.loop-key.invariant.stays);
@@ -48,8 +48,8 @@ add_members-loop-key-preserved t c =
           ap (λ document. members_fit_in c.args.levels path document left) put ∙ sym (members_fit_in-more c.args.levels path key doc d left named fits)
           ∙ ap (λ es. members_fit_in c.args.levels path doc (members_view es)) (sym c.in-Some.ensures.steps) ∙ c.loop-key.invariant.decides;
       gives =
-          ap (λ document. with_fields document (members_fields path left)) put ∙ sym (with_fields-append doc (fields_under (dotted path key) d) (members_fields path left))
-          ∙ ap (λ es. with_fields doc (members_fields path (members_view es))) (sym c.in-Some.ensures.steps) ∙ c.loop-key.invariant.gives;
+          ap (λ document. with_all_fields document (members_fields path left)) put ∙ sym (with_all_fields-append doc (fields_under (dotted path key) d) (members_fields path left))
+          ∙ ap (λ es. with_all_fields doc (members_fields path (members_view es))) (sym c.in-Some.ensures.steps) ∙ c.loop-key.invariant.gives;
     }
 
 -- ---- an object that is not empty gives the fields of its members

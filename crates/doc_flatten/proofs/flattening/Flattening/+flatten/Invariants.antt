@@ -1,6 +1,6 @@
 use Rattle.std.proofs.Common.{◌≡◌, ◌≤◌, length}
 use Rattle.serde_json.specs.View.{members_view}
-use Rattle.doc_flatten.specs.Fields.{members_fields, with_fields}
+use Rattle.doc_flatten.specs.Fields.{members_fields, with_all_fields}
 use Rattle.doc_flatten.specs.Walk.{members_fit_in}
 use Rattle.doc_flatten.proofs.flattening.Flattening.+flatten.Given as goal
 
@@ -13,5 +13,5 @@ invariant-add_members-loop-key l =
       stays : l.self.path ≡ path;
       few : length l.self.doc ≤ 4096;
       decides : members_fit_in l.levels path l.self.doc left ≡ members_fit_in l.levels path l.initial.self.doc all;
-      gives : with_fields l.self.doc (members_fields path left) ≡ with_fields l.initial.self.doc (members_fields path all);
+      gives : with_all_fields l.self.doc (members_fields path left) ≡ with_all_fields l.initial.self.doc (members_fields path all);
     }
