@@ -3,8 +3,6 @@ pub mod Agreements
 pub mod WholeLines
 pub mod Later
 pub mod States
-mod StoredValues
-mod StoredFields
 mod Pairs
 mod Entries
 mod RecordFields
@@ -16,4 +14,3 @@ pub mod PairsHeld
 pub mod Places
 pub mod Lights
 mod StoredRows
-mod WholeDocuments
