@@ -18,7 +18,7 @@ use Rattle.doc_values.specs.declared.value.Value.{Value}
 use Rattle.reservoir_record.specs.declared.fields.Field.{Field}
 use Rattle.reservoir_record.specs.Finding.{value_of}
 use Rattle.attr_catalog.specs.Attribute.{Attribute}
-use Rattle.attr_catalog.specs.Catalog.{number, id_of, id_at, kinds_of, IsOnce}
+use Rattle.attr_catalog.specs.Catalog.{id_of, id_at, kinds_of, IsOnce}
 use Rattle.sql_eval.specs.Meaning.{given, if_wanted}
 use Rattle.query_meaning.specs.Plans.{cells_under}
 use Rattle.commit_core.specs.State.{Row}

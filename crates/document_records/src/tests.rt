@@ -32,7 +32,13 @@ fn values_have_their_bytes(rt: HostRuntime) -> Result<(), Fail> {
     assert!(rt; is_stored_as(alloc, &Value::Bool(true), &[1])?);
     assert!(rt; is_stored_as(alloc, &Value::Bool(false), &[0])?);
     assert!(rt; is_stored_as(alloc, &Value::Int(7), &[7, 0, 0, 0, 0, 0, 0, 0])?);
-    assert!(rt; is_stored_as(alloc, &Value::Int(-2), &[254, 255, 255, 255, 255, 255, 255, 255])?);
+    assert!(rt;
+        is_stored_as(
+            alloc,
+            &Value::Int(-2),
+            &[254, 255, 255, 255, 255, 255, 255, 255]
+        )?
+    );
     assert!(rt; is_stored_as(alloc, &text, &[195, 169])?);
     assert!(rt; is_stored_as(alloc, &array, &[91, 49, 93])?);
     assert!(rt; is_stored_as(alloc, &Value::Object, &[])?);
@@ -66,7 +72,12 @@ fn has_seven(alloc: Global, catalog: &Catalog, stored: &Record) -> Result<bool, 
     let number = value_of_kind(alloc, Kind::Int, kinds.int_id, stored)?;
     let any = value_under(alloc, &kinds, stored)?;
     let whole = document(alloc, catalog, stored)?;
-    Ok(is_seven(number.as_ref()) && is_seven(any.as_ref()) && whole.len() == 1 && is_seven(whole.get("a")))
+    Ok(
+        is_seven(number.as_ref())
+            && is_seven(any.as_ref())
+            && whole.len() == 1
+            && is_seven(whole.get("a")),
+    )
 }
 
 fn is_seven(value: Option<&Value>) -> bool {

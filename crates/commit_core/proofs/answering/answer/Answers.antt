@@ -5,7 +5,6 @@ use Rattle.sql_eval.specs.declared.key_plan.KeyPlan.{KeyPlan}
 use Rattle.exec_finish.specs.Answer.{finished}
 use Rattle.query_meaning.specs.Question.{answer_among}
 use Rattle.query_meaning.specs.Plans.{rows_read, kept_by, output_by, answer_of_plan}
-use Rattle.query_meaning.specs.Runs.{CanRunOver}
 use Rattle.commit_core.specs.Plan.{Plan}
 use Rattle.commit_core.specs.Planned.{IsReadAs}
 use Rattle.commit_core.proofs.answering.answer.Goals as goal
