@@ -15,8 +15,8 @@ use Rattle.reservoir_record.specs.declared.fields.Field.{Field}
 use Rattle.reservoir_record.specs.Spelling.{values}
 use Rattle.attr_catalog.specs.Attribute.{Attribute}
 use Rattle.commit_core.specs.Write.{with_fields}
-use Rattle.commit_core.specs.StoredValue.{value_in, bytes_of}
-use Rattle.commit_core.specs.StoredDocument.{Pairs, pairs_of, with_stored, document_stored, IsStored, IsHeld, IsKept}
+use Rattle.document_records.specs.StoredValue.{value_in, bytes_of}
+use Rattle.document_records.specs.StoredDocument.{Pairs, pairs_of, with_stored, document_stored, IsStored, IsHeld, IsKept}
 use Rattle.commit_core.specs.Loading.{HasGrown, HasFront, HasDocuments, documents_stored, field_of, fields_of}
 use Rattle.commit_core.proofs.Pairs.{Stays, stays, documents_more, documents_upto}
 use Rattle.commit_core.proofs.Entries.{take_all_of, take_plus}

@@ -13,9 +13,10 @@ use Rattle.reservoir_record.specs.Spelling.{Ascends, AreFields}
 use Rattle.attr_catalog.specs.Attribute.{Attribute, raised}
 use Rattle.attr_catalog.specs.Catalog.{changed, number}
 use Rattle.attr_catalog.specs.Catalog.{most_versions}
-use Rattle.commit_core.specs.StoredDocument.{Pairs, pairs_of, document_stored, IsStored, IsHeld, IsKept, has_number, holders}
+use Rattle.document_records.specs.StoredDocument.{Pairs, pairs_of, document_stored, IsStored, IsHeld, IsKept}
+use Rattle.commit_core.specs.StoredTable.{has_number, holders}
 use Rattle.commit_core.specs.Loading.{with_count, HasCounted}
-use Rattle.commit_core.proofs.StoredFields.{pair_at, attribute_at}
+use Rattle.document_records.proofs.StoredFields.{pair_at, attribute_at}
 use Rattle.commit_core.proofs.Entries.{take_plus}
 use Rattle.commit_core.proofs.Appended.{all_at}
 

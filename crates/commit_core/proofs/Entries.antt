@@ -7,8 +7,8 @@ use Rattle.doc_values.specs.declared.kind.Kind.{Kind}
 use Rattle.doc_values.specs.declared.value.Value.{Value}
 use Rattle.attr_catalog.specs.Attribute.{Attribute}
 use Rattle.commit_core.specs.Write.{with_pair, with_fields}
-use Rattle.commit_core.specs.StoredValue.{bytes_of, AreReadable}
-use Rattle.commit_core.specs.StoredDocument.{Pairs, pairs_of}
+use Rattle.document_records.specs.StoredValue.{bytes_of, AreReadable}
+use Rattle.document_records.specs.StoredDocument.{Pairs, pairs_of}
 use Rattle.commit_core.specs.Loading.{HasGrown, HaveEntries}
 use Rattle.commit_core.proofs.Pairs.{Stays, stays, fields_more, fields_upto}
 

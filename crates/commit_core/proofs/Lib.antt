@@ -3,8 +3,6 @@ pub mod Agreements
 pub mod WholeLines
 pub mod Later
 pub mod States
-mod StoredValues
-mod StoredFields
 mod Pairs
 mod Entries
 mod RecordFields
@@ -16,5 +14,4 @@ pub mod PairsHeld
 pub mod Places
 pub mod Lights
 mod StoredRows
-mod WholeDocuments
 pub mod NeededTuples

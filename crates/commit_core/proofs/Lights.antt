@@ -13,7 +13,7 @@ use Rattle.sql_grammar.specs.StatementReader.{statement_of}
 use Rattle.type_rules.specs.declared.type_fault.TypeFault.{TypeFault}
 use Rattle.type_rules.specs.Fault.{fault_of}
 use Rattle.commit_core.specs.Write.{loads}
-use Rattle.commit_core.specs.State.{most_weight}
+use Rattle.document_records.specs.Limits.{most_weight}
 use Rattle.commit_core.specs.Plan.{write, plan_of, plan_in, load_plan, checked_plan}
 
 -- the laws of the crate below

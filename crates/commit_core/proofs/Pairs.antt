@@ -18,9 +18,9 @@ use Rattle.attr_catalog.specs.Catalog.{is_of, number, id_of}
 use Rattle.attr_catalog.specs.Catalog as catalog
 use Rattle.doc_values.specs.Order.{same_kind}
 use Rattle.commit_core.specs.Write.{same_pair, with_pair, with_fields}
-use Rattle.commit_core.specs.StoredDocument.{Pairs, pairs_of}
+use Rattle.document_records.specs.StoredDocument.{Pairs, pairs_of}
 use Rattle.commit_core.specs.Loading.{IsFresh, HasGrown}
-use Rattle.commit_core.proofs.StoredFields.{stands_for, pair_at}
+use Rattle.document_records.proofs.StoredFields.{stands_for, pair_at}
 
 -- ---- whether a pair stands
 

@@ -13,7 +13,8 @@ use Rattle.doc_values.specs.declared.kind.Kind.{Kind}
 use Rattle.doc_values.specs.declared.value.Value.{Value}
 use Rattle.doc_flatten.specs.Documents.{IsWithinLimits}
 use Rattle.attr_catalog.specs.Catalog.{most_attributes}
-use Rattle.commit_core.specs.State.{Row, Collection, State, pair_of, IsDocumentOf, IsCollection, IsState, opening, is_named, collection_at, documents_of_rows, documents_at, most_collections, most_weight}
+use Rattle.document_records.specs.Limits.{most_weight}
+use Rattle.commit_core.specs.State.{Row, Collection, State, pair_of, IsDocumentOf, IsCollection, IsState, opening, is_named, collection_at, documents_of_rows, documents_at, most_collections}
 use Rattle.attr_catalog.specs.Catalog.{most_versions}
 use Rattle.commit_core.specs.Write.{accepted, full, loads, rows_from, with_fields, new_collection, with_documents, with_load, is_beyond, is_there_beyond, is_full}
 use Rattle.commit_core.specs.Plan.{Plan, refused, read, write, plan_of}

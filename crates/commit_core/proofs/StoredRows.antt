@@ -18,25 +18,17 @@ use Rattle.doc_values.specs.declared.value.Value.{Value}
 use Rattle.reservoir_record.specs.declared.fields.Field.{Field}
 use Rattle.reservoir_record.specs.Finding.{value_of}
 use Rattle.attr_catalog.specs.Attribute.{Attribute}
-use Rattle.attr_catalog.specs.Catalog.{number, id_of, id_at, kinds_of, IsOnce}
+use Rattle.attr_catalog.specs.Catalog.{id_of, id_at, kinds_of, IsOnce}
 use Rattle.sql_eval.specs.Meaning.{given, if_wanted}
 use Rattle.query_meaning.specs.Plans.{cells_under}
 use Rattle.commit_core.specs.State.{Row}
-use Rattle.commit_core.specs.ReadBack.{value_of_kind, CanBeRead}
-use Rattle.commit_core.specs.StoredDocument.{Pairs, pairs_of, document_stored, IsKept}
+use Rattle.document_records.specs.ReadBack.{value_of_kind, CanBeRead}
+use Rattle.document_records.specs.StoredDocument.{Pairs, pairs_of, document_stored, IsKept}
 use Rattle.commit_core.specs.StoredRow.{path_of, IsPathIn, cell_at_kind, cell_along, row_along}
-use Rattle.commit_core.specs.StoredValue.{value_in}
+use Rattle.document_records.specs.StoredValue.{value_in}
 use Rattle.commit_core.specs.Write.{rows_from}
 use Rattle.commit_core.specs.declared.column_path.ColumnPath.{ColumnPath}
-use Rattle.commit_core.proofs.StoredFields.{sound, source, same_rank, attribute_at, has_bytes, found_under, can_be_read}
-
--- what bytes are at a kind has that kind
-kind_in : (of : Kind) (bytes : List ℕ) → kind_of (value_in of bytes) ≡ of
-kind_in kind.Bool bytes = refl
-kind_in kind.Int bytes = refl
-kind_in kind.Text bytes = refl
-kind_in kind.Array bytes = refl
-kind_in kind.Object bytes = refl
+use Rattle.document_records.proofs.StoredFields.{kind_in, sound, there, same_rank, found_under, can_be_read}
 
 kind_found : (of : Kind) (o : Option (List ℕ)) (v : Value) → option_map (value_in of) o ≡ Some v → kind_of v ≡ of
 kind_found of None v h = absurd (none-some v h)
@@ -71,23 +63,6 @@ module _ (puts : PutsAlone) (attributes : List Attribute) (once : IsOnce attribu
   abbrev one : Kind → Option Value
   one of = value_of_kind of (id_of name of attributes) fs
 
-  -- a value of the document stands under its kind
-  there_at : (v : Value) (a : Attribute) (id : ℕ) (bytes : List ℕ) → value_at name document ≡ Some v → id_of name a.kind attributes ≡ Some (number id) → value_of id fs ≡ Some bytes → one (kind_of v) ≡ Some v
-  there_at v a id bytes at numbered found =
-      let here : one a.kind ≡ Some (value_in a.kind bytes) = ap (λ (o : Option AttrId). value_of_kind a.kind o fs) numbered ∙ ap (option_map (value_in a.kind)) found in
-      let same : v ≡ value_in a.kind bytes = same_Some v (value_in a.kind bytes) (sym at ∙ sound puts attributes once fs kept name a.kind (value_in a.kind bytes) here) in
-      let of : kind_of v ≡ a.kind = ap kind_of same ∙ kind_in a.kind bytes in
-      ap one of ∙ here ∙ ap (λ (w : Value). Some w) (sym same)
-
-  there : (v : Value) → value_at name document ≡ Some v → one (kind_of v) ≡ Some v
-  there v at =
-      let g = source puts (pairs_of attributes) name v fs at in
-      let a = attribute_at attributes g.field.id g.pair g.numbered in
-      let named : a.0.name ≡ name = ap (λ (p : List ℕ × Kind). p.0) a.2 ∙ g.named in
-      let numbered : id_of name a.0.kind attributes ≡ Some (number g.field.id) = ap (λ (n : List ℕ). id_of n a.0.kind attributes) (sym named) ∙ once g.field.id a.0 a.1 in
-      let b = has_bytes fs g.field g.there in
-      there_at v a.0 g.field.id b.bytes at numbered b.found
-
   -- a kind that is wanted
   other_by : (of : Kind) (v : Value) (t : Bool) → rank of == rank (kind_of v) ≡ t → one of ≡ None → one (kind_of v) ≡ Some v → cond t (Some v) None ≡ None
   other_by of v false e none some = refl
@@ -97,7 +72,7 @@ module _ (puts : PutsAlone) (attributes : List Attribute) (once : IsOnce attribu
 
   none_by : (of : Kind) (o : Option Value) → value_at name document ≡ o → one of ≡ None → option_and_then (if_wanted (Some of)) o ≡ None
   none_by of None at none = refl
-  none_by of (Some v) at none = other_by of v (rank of == rank (kind_of v)) refl none (there v at)
+  none_by of (Some v) at none = other_by of v (rank of == rank (kind_of v)) refl none (there puts attributes once fs kept name v at)
 
   some_by : (of : Kind) (v : Value) → kind_of v ≡ of → if_wanted (Some of) v ≡ Some v
   some_by of v e = cond-true (rank of == rank (kind_of v)) (Some v) None (ap (λ (k : Kind). rank of == rank k) e ∙ itself (rank of))

@@ -15,9 +15,10 @@ use Rattle.attr_catalog.specs.Catalog.{most_attributes}
 use Rattle.commit_core.specs.State.{Row}
 use Rattle.attr_catalog.specs.Catalog.{most_versions}
 use Rattle.commit_core.specs.Write.{rows_from, with_fields, with_documents}
-use Rattle.commit_core.specs.StoredDocument.{Pairs, pairs_of, document_stored, IsStored, IsHeld, IsKept, has_number, holders, IsInRecords, IsTable, collection_of}
+use Rattle.document_records.specs.StoredDocument.{Pairs, pairs_of, document_stored, IsStored, IsHeld, IsKept}
+use Rattle.commit_core.specs.StoredTable.{has_number, holders, IsInRecords, IsTable, collection_of}
 use Rattle.commit_core.specs.Loading.{IsFresh, HasGrown, HasFront, HasDocuments, HasCounted, HasLoaded, documents_stored, is_too_much}
-use Rattle.commit_core.proofs.StoredFields.{among}
+use Rattle.document_records.proofs.StoredFields.{among}
 use Rattle.commit_core.proofs.Pairs.{get_taken}
 use Rattle.commit_core.proofs.Entries.{take_all_of}
 use Rattle.commit_core.proofs.Appended.{all_at}

@@ -6,9 +6,7 @@ pub mod Replies
 pub mod Commits
 pub mod Agreement
 pub mod Planned
-pub mod StoredValue
-pub mod StoredDocument
+pub mod StoredTable
 pub mod Loading
-pub mod ReadBack
 pub mod StoredRow
 pub mod Needed

@@ -4,14 +4,13 @@ use Rattle.std.specs.Option.{option_map_or}
 use Rattle.doc_values.specs.Doc.{Fields}
 use Rattle.doc_values.specs.Value.{kind_of}
 use Rattle.reservoir_record.specs.declared.fields.Field.{Field}
-use Rattle.reservoir_record.specs.Spelling.{ArePartsOf}
 use Rattle.attr_catalog.specs.Attribute.{Attribute, fresh}
-use Rattle.commit_core.specs.declared.parts.Parts.{Parts}
 use Rattle.attr_catalog.specs.Catalog.{most_versions}
 use Rattle.attr_catalog.specs.Catalog.{most_attributes}
 use Rattle.commit_core.specs.Write.{with_fields}
-use Rattle.commit_core.specs.StoredValue.{bytes_of, AreReadable}
-use Rattle.commit_core.specs.StoredDocument.{Pairs, pairs_of, document_stored, IsKept, holders}
+use Rattle.document_records.specs.StoredValue.{bytes_of, AreReadable}
+use Rattle.document_records.specs.StoredDocument.{Pairs, pairs_of, document_stored, IsKept}
+use Rattle.commit_core.specs.StoredTable.{holders}
 
 -- The attribute is as a catalog begins one: no document holds it.
 abbrev pub IsFresh : Attribute → Type 0
@@ -37,10 +36,6 @@ field_of document entry = record { id = entry.0; bytes = option_map_or (λ field
 -- The fields of a record for entries of a document.
 abbrev pub fields_of : Fields → List (ℕ × ℕ) → List Field
 fields_of document entries = map (field_of document) entries
-
--- The parts are those of fields.
-abbrev pub AreIn : List Field → Parts → Type 0
-AreIn fields parts = ArePartsOf fields parts.ids.items parts.ends.items parts.values.items
 
 -- The documents that records stand for under attributes.
 abbrev pub documents_stored : List Attribute → List (List Field) → List Fields

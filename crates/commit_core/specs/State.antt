@@ -9,14 +9,11 @@ use Rattle.doc_values.specs.declared.kind.Kind.{Kind}
 use Rattle.doc_values.specs.declared.value.Value.{Value}
 use Rattle.doc_flatten.specs.Documents.{IsWithinLimits}
 use Rattle.attr_catalog.specs.Catalog.{most_attributes, most_versions}
+use Rattle.document_records.specs.Limits.{most_weight}
 
 -- How many collections a state may have.
 abbrev pub most_collections : ℕ
 most_collections = 256
-
--- The most that a document weighs: 16 bytes for each of the 1,048,576 bytes that the text of a load may have.
-abbrev pub most_weight : ℕ
-most_weight = 16777216
 
 -- A document in its row.
 pub record Row : Type 0 where

@@ -1,6 +1,5 @@
 -- The rows that are read of the records of a table.
-use Rattle.std.specs.Prelude.{◌≡◌, ℕ, List, Bool, map, fold, Option, Some, None, if◌then◌else◌}
-use Rattle.doc_values.specs.Doc.{Fields}
+use Rattle.std.specs.Prelude.{◌≡◌, ℕ, List, Bool, map, Option, Some, None, if◌then◌else◌}
 use Rattle.doc_values.specs.declared.col_ref.ColRef.{ColRef}
 use Rattle.doc_values.specs.declared.kind.Kind.{Kind}
 use Rattle.doc_values.specs.declared.value.Value.{Value}
@@ -10,8 +9,8 @@ use Rattle.attr_catalog.specs.Catalog.{kinds_of, id_at}
 use Rattle.attr_catalog.specs.declared.kinds.Kinds.{Kinds}
 use Rattle.sql_eval.specs.Contents.{Cells}
 use Rattle.commit_core.specs.declared.column_path.ColumnPath.{ColumnPath}
-use Rattle.commit_core.specs.ReadBack.{value_of_kind, value_under}
-use Rattle.commit_core.specs.StoredDocument.{Pairs, pairs_of, with_stored, document_stored}
+use Rattle.document_records.specs.ReadBack.{value_of_kind, value_under}
+use Rattle.document_records.specs.StoredDocument.{pairs_of, document_stored}
 
 -- Where a column is read: at the numbers of its name.
 abbrev pub path_of : List Attribute → ColRef → ColumnPath
@@ -34,7 +33,3 @@ cell_along fields path = cell_at_kind path.kinds path.want fields
 -- The row of a record along paths, with its document where whole documents are asked for.
 abbrev pub row_along : List Attribute → List ColumnPath → Bool → List Field → Cells
 row_along attributes paths whole fields = record { cells = map (cell_along fields) paths; doc = if whole then Some (document_stored (pairs_of attributes) fields) else None }
-
--- The document with the values of fields put in, one after the other.
-abbrev pub document_with : Pairs → Fields → List Field → Fields
-document_with pairs document fields = fold (λ d f. with_stored pairs f d) document fields

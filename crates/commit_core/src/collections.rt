@@ -29,7 +29,8 @@ impl Model for Collections {
 
 impl Collections {
     ghost use Rattle.doc_values.specs.Weight.{weight_of};
-    ghost use Rattle.commit_core.specs.State.{collection_at, is_named, most_weight};
+    ghost use Rattle.document_records.specs.Limits.{most_weight};
+    ghost use Rattle.commit_core.specs.State.{collection_at, is_named};
     ghost use Rattle.commit_core.specs.Write.{is_full, with_load};
 
     /// No collection.

@@ -1,12 +1,12 @@
 ghost use Rattle.std.specs.Prelude.{ℕ, ◌≡◌, ◌+◌, ◌≤◌, ◌<◌, [], ◌∷◌, Some, All, length, slice_get};
 ghost use Rattle.attr_catalog.specs.Attribute.{Attribute};
 ghost use Rattle.attr_catalog.specs.Catalog.{most_versions};
-ghost use Rattle.commit_core.specs.StoredDocument.{pairs_of, IsKept};
+ghost use Rattle.document_records.specs.StoredDocument.{pairs_of, IsKept};
 ghost use Rattle.commit_core.specs.Loading.{HasCounted};
 
-use crate::record::Record;
 use attr_catalog::Catalog;
 use doc_values::AttrId;
+use document_records::Record;
 
 /// Counts the attributes of new records.
 pub(crate) fn count_all(catalog: &mut Catalog, records: &[Record])

@@ -16,24 +16,19 @@ mod limits;
 mod lines;
 mod load_refusal;
 mod loading;
-mod parts;
 mod planned;
 mod prepared;
 mod prepared_sort;
 mod preparing;
 mod reading;
-mod record;
-mod record_reading;
 mod reply;
 mod row_reading;
 mod settings;
 mod state_laws;
 mod store;
-mod stored_value;
 mod table;
 #[cfg(test)]
 mod tests;
-mod whole_document;
 
 pub use entry::Entry;
 pub use laws::{
@@ -48,4 +43,3 @@ pub use reply::Reply;
 pub use settings::Settings;
 pub use state_laws::{loads_are_light, states_keep_the_rules};
 pub use store::Core;
-pub use stored_value::stored_values_are_told_apart;

@@ -3,19 +3,19 @@ ghost use Rattle.doc_flatten.specs.Documents.{IsWithinLimits};
 ghost use Rattle.doc_values.specs.Weight.{weight_of};
 ghost use Rattle.reservoir_record.specs.Spelling.{values};
 ghost use Rattle.attr_catalog.specs.Catalog.{most_attributes};
-ghost use Rattle.commit_core.specs.State.{most_weight};
+ghost use Rattle.document_records.specs.Limits.{most_weight};
 ghost use Rattle.commit_core.specs.Write.{with_pair, with_fields};
-ghost use Rattle.commit_core.specs.StoredDocument.{pairs_of, IsKept, IsTable};
-ghost use Rattle.commit_core.specs.Loading.{HasGrown, HaveEntries, fields_of, AreIn, HasDocuments, HasFront, HasLoaded, is_too_much};
+ghost use Rattle.document_records.specs.StoredDocument.{pairs_of, IsKept};
+ghost use Rattle.commit_core.specs.StoredTable.{IsTable};
+ghost use Rattle.document_records.specs.Parts.{AreIn};
+ghost use Rattle.commit_core.specs.Loading.{HasGrown, HaveEntries, fields_of, HasDocuments, HasFront, HasLoaded, is_too_much};
 
 use crate::counting::count_all;
 use crate::documents::Documents;
 use crate::load_refusal::LoadRefusal;
-use crate::parts::Parts;
-use crate::record::Record;
-use crate::stored_value::kind_stored;
 use attr_catalog::{AddFault, Catalog};
 use doc_values::{Doc, Kind, documents_are_maps};
+use document_records::{Parts, Record, kind_stored};
 use std::alloc::{AllocError, Global};
 
 /// How many versions a collection may have.

@@ -1,16 +1,14 @@
 ghost use Rattle.std.specs.Prelude.{◌≡◌, All, map, IfOk};
 ghost use Rattle.doc_values.specs.Doc.{IsDocument};
 ghost use Rattle.attr_catalog.specs.Catalog.{IsOnce};
-ghost use Rattle.commit_core.specs.ReadBack.{CanBeRead};
-ghost use Rattle.commit_core.specs.StoredDocument.{pairs_of, document_stored, IsKept};
+ghost use Rattle.document_records.specs.ReadBack.{CanBeRead};
+ghost use Rattle.document_records.specs.StoredDocument.{pairs_of, document_stored, IsKept};
 ghost use Rattle.commit_core.specs.StoredRow.{cell_along, path_of, row_along, IsPathIn};
 
 use crate::column_path::ColumnPath;
-use crate::record::Record;
-use crate::record_reading::{value_of_kind, value_under};
-use crate::whole_document::document;
 use attr_catalog::Catalog;
 use doc_values::{ColRef, Value, documents_are_maps};
+use document_records::{Record, document, value_of_kind, value_under};
 use sql_eval::Row;
 use std::alloc::{AllocError, Global};
 

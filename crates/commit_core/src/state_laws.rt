@@ -5,7 +5,8 @@ ghost use Rattle.doc_values.specs.Weight.{weight_of};
 ghost use Rattle.doc_flatten.specs.Documents.{IsWithinLimits};
 ghost use Rattle.commit_core.specs.Plan.{plan_of, write};
 ghost use Rattle.commit_core.specs.Replies.{state_after};
-ghost use Rattle.commit_core.specs.State.{IsState, most_weight};
+ghost use Rattle.document_records.specs.Limits.{most_weight};
+ghost use Rattle.commit_core.specs.State.{IsState};
 ghost use Rattle.commit_core.specs.Write.{loads};
 
 use doc_flatten::{documents_are_light, documents_keep_the_limits};

@@ -4,10 +4,10 @@ ghost use Rattle.doc_flatten.specs.Documents.{IsWithinLimits};
 use crate::documents::Documents;
 use crate::load_refusal::LoadRefusal;
 use crate::loading::load;
-use crate::record::Record;
 use crate::row_reading::{paths, rows_along};
 use attr_catalog::Catalog;
 use doc_values::{ColRef, Utf, documents_are_maps};
+use document_records::Record;
 use sql_eval::Row;
 use std::alloc::{AllocError, Global};
 use std::marker::Model;
@@ -22,7 +22,7 @@ pub(crate) struct Table {
 
 impl Model for Table {
     ghost use Rattle.commit_core.specs.State.{Collection};
-    ghost use Rattle.commit_core.specs.StoredDocument.{collection_of, IsTable};
+    ghost use Rattle.commit_core.specs.StoredTable.{collection_of, IsTable};
 
     ghost Value = { Collection };
 
@@ -34,7 +34,7 @@ impl Model for Table {
 impl Table {
     ghost use Rattle.doc_values.specs.Doc.{IsDocument};
     ghost use Rattle.doc_values.specs.Weight.{weight_of};
-    ghost use Rattle.commit_core.specs.State.{most_weight};
+    ghost use Rattle.document_records.specs.Limits.{most_weight};
     ghost use Rattle.query_meaning.specs.Plans.{cells_under};
     ghost use Rattle.commit_core.specs.Write.{new_collection, with_documents, is_beyond};
 

@@ -1,4 +1,4 @@
-use Rattle.commit_core.specs.StoredDocument.{pairs_of}
+use Rattle.document_records.specs.StoredDocument.{pairs_of}
 use Rattle.commit_core.specs.Loading.{fields_of}
 use Rattle.commit_core.proofs.RecordFields.{made_stands, made_kept, made_fit, made_within, made_fields, up_from_sorted, few_pairs}
 use Rattle.commit_core.proofs.Appended.{one_more}

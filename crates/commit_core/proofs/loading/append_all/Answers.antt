@@ -3,8 +3,8 @@ use Rattle.std.proofs.lemmas.Result.{err_from_is_err_and}
 use Rattle.doc_values.specs.Doc.{Fields}
 use Rattle.doc_values.specs.Weight.{weight_of}
 use Rattle.attr_catalog.specs.Catalog.{most_attributes}
-use Rattle.commit_core.specs.State.{most_weight}
-use Rattle.commit_core.specs.StoredDocument.{pairs_of}
+use Rattle.document_records.specs.Limits.{most_weight}
+use Rattle.document_records.specs.StoredDocument.{pairs_of}
 use Rattle.commit_core.specs.declared.load_refusal.LoadRefusal.TheVariants.{Full}
 use Rattle.commit_core.proofs.Pairs.{grown_twice}
 use Rattle.commit_core.proofs.Appended.{front_twice, all_at, documents_twice, pairs_twice, too_many_documents}

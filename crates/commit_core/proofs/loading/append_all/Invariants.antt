@@ -1,6 +1,6 @@
 use Rattle.std.proofs.Common.{◌≡◌, take, fold}
 use Rattle.commit_core.specs.Write.{with_fields}
-use Rattle.commit_core.specs.StoredDocument.{pairs_of}
+use Rattle.document_records.specs.StoredDocument.{pairs_of}
 use Rattle.commit_core.specs.Loading.{HasGrown, HasFront, HasDocuments}
 use Rattle.commit_core.proofs.loading.append_all.Given as goal
 

@@ -1,5 +1,6 @@
 use Rattle.std.proofs.Common.{take}
-use Rattle.commit_core.specs.Loading.{fields_of, AreIn}
+use Rattle.document_records.specs.Parts.{AreIn}
+use Rattle.commit_core.specs.Loading.{fields_of}
 use Rattle.commit_core.proofs.loading.fill.Given as goal
 
 abbrev pub invariant-loop-entry : goal.invariant-loop-entry

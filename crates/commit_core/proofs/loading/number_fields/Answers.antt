@@ -2,7 +2,7 @@ use Rattle.std.proofs.Common.{◌≡◌, Err, refl, ◌∙◌, sym, ap}
 use Rattle.std.proofs.lemmas.Result.{err_from_is_err_and}
 use Rattle.commit_core.specs.declared.load_refusal.LoadRefusal.TheVariants.{Full}
 use Rattle.attr_catalog.specs.Catalog.{most_attributes}
-use Rattle.commit_core.specs.StoredDocument.{pairs_of}
+use Rattle.document_records.specs.StoredDocument.{pairs_of}
 use Rattle.commit_core.proofs.Pairs.{grown_itself, grown_twice}
 use Rattle.commit_core.proofs.Entries.{entries_more, pairs_more, too_many}
 use Rattle.commit_core.proofs.loading.number_fields.Goals as goal

@@ -1,6 +1,6 @@
 use Rattle.std.proofs.Common.{◌≡◌, take}
 use Rattle.commit_core.specs.Write.{with_fields}
-use Rattle.commit_core.specs.StoredDocument.{pairs_of}
+use Rattle.document_records.specs.StoredDocument.{pairs_of}
 use Rattle.commit_core.specs.Loading.{HasGrown, HaveEntries}
 use Rattle.commit_core.proofs.loading.number_fields.Given as goal
 

@@ -1,4 +1,4 @@
-use Rattle.std.proofs.Common.{◌∙◌, List, ℕ, option_map, Vec, Global, sym, ap, map, take, false}
+use Rattle.std.proofs.Common.{◌∙◌, List, ℕ, option_map, Vec, Global, sym, ap, take, false}
 use Rattle.std.proofs.lemmas.Option.{same_Some}
 use Rattle.sql_eval.specs.declared.row.Row.{Row}
 use Rattle.query_meaning.specs.Plans.{rows_read}

@@ -1,5 +1,5 @@
 use Rattle.std.proofs.lemmas.List.Elements.{All-from_recursion, recursion_from_All}
-use Rattle.commit_core.specs.StoredDocument.{pairs_of}
+use Rattle.document_records.specs.StoredDocument.{pairs_of}
 use Rattle.commit_core.proofs.StoredRows.{rows_found, paths_named, rows_ordered}
 use Rattle.commit_core.proofs.table.Table.rows.Goals as goal
 

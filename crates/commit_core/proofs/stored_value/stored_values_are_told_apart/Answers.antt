@@ -1,5 +1,0 @@
-use Rattle.commit_core.proofs.StoredValues.{reads_back, told_apart}
-use Rattle.commit_core.proofs.stored_value.stored_values_are_told_apart.Goals as goal
-
-pub returns : goal.returns
-returns c = record { back = reads_back; apart = told_apart }

@@ -1,7 +1,0 @@
-use Rattle.std.proofs.Common.{[], arith}
-use Rattle.commit_core.proofs.WholeDocuments.{put_next}
-use Rattle.commit_core.specs.StoredDocument.{pairs_of}
-use Rattle.commit_core.proofs.whole_document.put_fields.Goals as goal
-
-pub loop-place-preserved : goal.loop-place-preserved
-loop-place-preserved c = put_next (pairs_of c.args.catalog.now) c.args.stored.now c.loop-place.place [] c.loop-place.document c.put_field.new.document (omega (arith, c.loop-place-test.true, c.len-place-end.ensures.exact)) c.in_ok-put_field.ensures.ok c.loop-place.invariant

@@ -1,0 +1,4 @@
+pub mod StoredValues
+pub mod StoredFields
+pub mod DocumentFields
+mod WholeDocuments

@@ -1,0 +1,6 @@
+pub mod Limits
+pub mod StoredValue
+pub mod StoredDocument
+pub mod ReadBack
+pub mod Parts
+pub mod Laws

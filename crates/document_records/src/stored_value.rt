@@ -1,0 +1,91 @@
+ghost use Rattle.std.specs.Prelude.{◌≡◌, ◌++◌, IfOk, OnOk, IsTrue, length};
+ghost use Rattle.std.specs.Int.{w64, cast_signed, from_le_bytes};
+ghost use Rattle.std.specs.Str.{is_utf8};
+ghost use Rattle.doc_values.specs.Value.{kind_of, IsStorable};
+ghost use Rattle.document_records.specs.StoredValue.{bytes_of, value_in, AreReadable, ReadsBack, AreToldApart};
+
+use doc_values::{Kind, Utf, Value};
+use std::alloc::{AllocError, Global};
+
+/// Puts the bytes of a value behind those that are there.
+pub fn push_value(bytes: &mut Vec<u8>, value: &Value) -> Result<(), AllocError>
+    requires { IsStorable value.now }
+    ensures ok { OnOk result (bytes.new.items ≡ bytes.old.items ++ bytes_of value.now) }
+{
+    match value {
+        Value::Bool(b) => bytes.push(u8::from(*b))?,
+        Value::Int(n) => bytes.extend_from_slice(&(*n as i64).to_le_bytes())?,
+        Value::Text(text) => bytes.extend_from_slice(text.text().as_bytes())?,
+        Value::Array(array) => bytes.extend_from_slice(array.text().as_bytes())?,
+        Value::Object => {}
+    }
+    Ok(())
+}
+
+/// The kind of a value, at which its bytes can be read.
+pub fn kind_stored(value: &Value) -> Kind
+    ensures exact { result ≡ kind_of value.now }
+    ensures readable { AreReadable result (bytes_of value.now) }
+{
+    match value {
+        Value::Bool(_) => Kind::Bool,
+        Value::Int(_) => Kind::Int,
+        Value::Text(text) => {
+            is_text(text);
+            Kind::Text
+        }
+        Value::Array(text) => {
+            is_text(text);
+            Kind::Array
+        }
+        Value::Object => Kind::Object,
+    }
+}
+
+// What a text holds is UTF-8.
+fn is_text(text: &Utf)
+    ensures exact { IsTrue (is_utf8 text.now) }
+{
+    let _text = text.text();
+}
+
+/// The value of a kind that bytes stand for.
+pub fn read_value(alloc: Global, kind: Kind, bytes: &[u8]) -> Result<Value, AllocError>
+    requires { AreReadable kind bytes.now }
+    ensures ok { IfOk result (λ value. value ≡ value_in kind bytes.now) }
+    ensures storable { IfOk result IsStorable }
+{
+    match kind {
+        Kind::Bool => Ok(Value::Bool(bytes[0] == 1)),
+        Kind::Int => Ok(Value::Int(read_int(bytes))),
+        Kind::Text => Ok(Value::Text(read_text(alloc, bytes)?)),
+        Kind::Array => Ok(Value::Array(read_text(alloc, bytes)?)),
+        Kind::Object => Ok(Value::Object),
+    }
+}
+
+fn read_int(bytes: &[u8]) -> i128
+    requires { length bytes.now ≡ 8 }
+    ensures exact { result ≡ cast_signed w64 (from_le_bytes w64 bytes.now) }
+{
+    let mut word = [0u8; 8];
+    word.copy_from_slice(bytes);
+    i128::from(i64::from_le_bytes(word))
+}
+
+fn read_text(alloc: Global, bytes: &[u8]) -> Result<Utf, AllocError>
+    requires { IsTrue (is_utf8 bytes.now) }
+    ensures ok { IfOk result (λ text. text ≡ bytes.now) }
+{
+    match str::from_utf8(bytes) {
+        Ok(text) => Utf::of(alloc, text),
+        Err(_) => unreachable!(),
+    }
+}
+
+/// A value that a document may hold is what its bytes stand for at its kind, and bytes tell two such values of one kind
+/// apart.
+pub fn stored_values_are_told_apart()
+    ensures back { ReadsBack }
+    ensures apart { AreToldApart }
+{}
