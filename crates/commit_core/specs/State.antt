@@ -20,7 +20,7 @@ pub record Row : Type 0 where
   pub number : ℕ
   pub document : Fields
 
--- A collection: its rows with their numbers ascending, the number of the next row, how many versions were written, and the pairs of name and kind ever written.
+-- A collection: its rows, the number of the next row, how many versions were written, and the pairs of name and kind ever written; `IsCollection` says which rules it keeps.
 pub record Collection : Type 0 where
   pub name : List ℕ
   pub rows : List Row
@@ -28,7 +28,7 @@ pub record Collection : Type 0 where
   pub versions : ℕ
   pub pairs : List (List ℕ × Kind)
 
--- A state: the collections in the order of their first load, each name once.
+-- A state: the collections in the order of their first load; `IsState` says which rules it keeps.
 abbrev pub State : Type 0
 State = List Collection
 

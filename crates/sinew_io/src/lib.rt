@@ -28,7 +28,7 @@ mod writing;
 mod written;
 
 pub use got::Got;
-pub use laws::an_end_leaves_no_bytes;
+pub use laws::{an_end_leaves_no_bytes, what_is_over_stays_over};
 pub use mem_sink::MemSink;
 pub use mem_source::MemSource;
 pub use put::Put;

@@ -19,16 +19,16 @@ one_write caller text old one other first second a b =
     let same : one ≡ other = a.commits ∙ sym b.commits in
     (same, a.replied ∙ (ap (λ (entries : List Entry). reply_at (length entries) (told_over old text)) same ∙ sym b.replied))
 
--- What is read for a question over the first so many commits.
-abbrev read_after : List (List ℕ) → Select → ℕ → List Cells
-read_after texts question number = rows_read question (documents_asked question (state_after (take number texts)))
+-- What is read for a question over commits.
+abbrev read_after : Select → List (List ℕ) → List Cells
+read_after question texts = rows_read question (documents_asked question (state_after texts))
 
--- Readings that agree, of one text at one number, have read the same.
-pub one_reading : (a b : ReadingOf) (texts : List (List ℕ)) (one other : List Cells) → Agrees a texts → Agrees b texts →
-    a.text ≡ b.text → a.at ≡ b.at → a.rows ≡ Some one → b.rows ≡ Some other → one ≡ other
-one_reading a b texts one other of-a of-b same_text same_number rows-a rows-b =
+-- Readings that agree, of one text at one number over commits that begin alike, have read the same.
+pub one_reading : (a b : ReadingOf) (texts others : List (List ℕ)) (one other : List Cells) → Agrees a texts → Agrees b others →
+    a.text ≡ b.text → a.at ≡ b.at → take a.at texts ≡ take a.at others → a.rows ≡ Some one → b.rows ≡ Some other → one ≡ other
+one_reading a b texts others one other of-a of-b same_text same_number same_front rows-a rows-b =
     let planned : plan_of b.text ≡ read of-a.question = sym (ap plan_of same_text) ∙ of-a.planned in
     let asked : of-a.question ≡ of-b.question = same_question b.text of-a.question of-b.question planned of-b.planned in
     of-a.found one rows-a
-    ∙ (ap (λ (question : Select). read_after texts question a.at) asked
-    ∙ (ap (λ (number : ℕ). read_after texts of-b.question number) same_number ∙ sym (of-b.found other rows-b)))
+    ∙ (ap (λ (question : Select). read_after question (take a.at texts)) asked
+    ∙ (ap (λ (front : List (List ℕ)). read_after of-b.question front) (same_front ∙ ap (λ (number : ℕ). take number others) same_number) ∙ sym (of-b.found other rows-b)))

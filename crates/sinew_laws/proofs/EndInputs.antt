@@ -1,6 +1,7 @@
 -- What was read of a source that tells its bytes, and what it is: one input, a script or none, with one run.
-use Rattle.std.proofs.Common.{◌≡◌, ◌≢◌, ℕ, ◌+◌, ◌≤◌, List, [], ◌∷◌, ◌++◌, length, take, drop, Option, Some, Result, Ok, Err, ◌⊎◌, inl, inr, refl, sym, ap, ◌∙◌, subst, arith}
+use Rattle.std.proofs.Common.{◌≡◌, ◌≢◌, ℕ, ◌+◌, ◌≤◌, List, [], ◌∷◌, ◌++◌, length, take, drop, Option, Some, None, Result, Ok, Err, ◌⊎◌, inl, inr, refl, sym, ap, ◌∙◌, subst, arith}
 use Rattle.std.proofs.lemmas.List.{append-nil, length-append, length-take-le, append_assoc, take-append-drop}
+use Rattle.sinew_io.specs.Told.{Took}
 use Rattle.script_reader.specs.Script.{script_of, most_script_bytes}
 use Rattle.script_reader.specs.declared.line.Line.{Line}
 use Rattle.script_reader.specs.declared.script_fault.ScriptFault.{ScriptFault}
@@ -11,6 +12,7 @@ use Rattle.sinew_app.specs.Outcome.{WasRead, WasRun, TookFront}
 use Rattle.sinew_app.specs.Printing.{printing}
 use Rattle.sinew_app.specs.Run.{Run, IsSerial, texts_at}
 use Rattle.sinew_app.proofs.Ends.{all_bad}
+use Rattle.sinew_laws.specs.Ends.{WhereTold, IsFrontOf}
 
 -- ---- what bytes are
 
@@ -87,10 +89,24 @@ some_left n output few none =
     omega (arith, few, parts, short, empty)
 
 -- What a sink took of a text whose writing broke off is a front of what it takes of the text, and not all of that.
-pub a_front : (before one other output : List ℕ) → TookFront (Some before) (Some one) output → other ≡ before ++ output → (rest : List ℕ) × (other ≡ one ++ rest) × (rest ≢ [])
+a_front : (before one other output : List ℕ) → TookFront (Some before) (Some one) output → other ≡ before ++ output → IsFrontOf one other
 a_front before one other output front whole =
     let n = front.0 in
     let joined : other ≡ (before ++ take n output) ++ drop n output =
     whole ∙ (ap (λ (bytes : List ℕ). before ++ bytes) (sym (take-append-drop n output)) ∙ sym (append_assoc before (take n output) (drop n output))) in
     let behind : other ≡ one ++ drop n output = joined ∙ ap (λ (bytes : List ℕ). bytes ++ drop n output) (sym front.2) in
     (drop n output, behind, some_left n output front.1)
+
+-- A sink that tells its bytes in the end told them before.
+pub took_alike : (before one other : Option (List ℕ)) (a b : List ℕ) → a ≡ b → Took before one a → Took before other b → WhereTold (λ x y. x ≡ y) one other
+took_alike None (Some one) (Some other) a b same took too = absurd took
+took_alike (Some before) (Some one) (Some other) a b same took too = took ∙ (ap (λ (bytes : List ℕ). before ++ bytes) same ∙ sym too)
+took_alike before (Some one) None a b same took too = tt
+took_alike before None other a b same took too = tt
+
+pub took_front : (before one other : Option (List ℕ)) (output text : List ℕ) → output ≡ text → TookFront before one output → Took before other text → WhereTold IsFrontOf one other
+took_front None (Some one) (Some other) output text same front took = absurd took
+took_front (Some before) (Some one) (Some other) output text same front took =
+    a_front before one other output front (took ∙ ap (λ (bytes : List ℕ). before ++ bytes) (sym same))
+took_front before (Some one) None output text same front took = tt
+took_front before None other output text same front took = tt

@@ -11,6 +11,7 @@ use Rattle.doc_values.specs.Value.{kind_of}
 use Rattle.doc_values.specs.Doc.{Fields, value_at}
 use Rattle.doc_values.specs.Order.{rank, same_kind}
 use Rattle.sql_tree.specs.declared.addend.Addend.{Addend}
+use Rattle.sql_tree.specs.declared.agg_call.AggCall.TheVariants as agg_call
 use Rattle.sql_tree.specs.declared.reference.Ref.{Ref}
 use Rattle.sql_tree.specs.declared.term.Term.{Term}
 use Rattle.sql_tree.specs.declared.term.Term.TheVariants as term
@@ -26,7 +27,7 @@ use Rattle.sql_eval.specs.Sides.{side_at}
 use Rattle.sql_eval.specs.Meaning.{Part, if_wanted, given, table_of, read, truth_in, number_in, comparison_of, means_step, part_step, addend_step, part_of, meaning}
 use Rattle.type_rules.specs.Kinds.{agree, Fitting, all_fit, side_fits, sides_fit, parts_fit, fitting_step, fitting_addend, fitting_of, addend_fits, fits}
 use Rattle.type_rules.proofs.TermFolds.{term-Or, term-And, term-Not, term-Compare, term-Among, term-Between, term-Like, term-Sum, term-Product, term-Minus}
-use Rattle.sinew_laws.specs.Kinds.{WantsOf, in_or, in_and, in_not, in_like, in_sum, in_product, in_minus, Compares, by_sign, with_member, with_low, with_high, own_of, HoldsBeside, MeansOneOf, MeanOneKind}
+use Rattle.sinew_laws.specs.Kinds.{WantsOf, in_or, in_and, in_not, in_like, in_sum, in_product, in_minus, in_total, Compares, by_sign, with_member, with_low, with_high, own_of, HoldsBeside, MeansOneOf, MeanOneKind}
 
 -- ---- kinds of values
 
@@ -102,6 +103,10 @@ pair_fits t (v ∷ ts) zero u all at =
     (and_parts (sides_fit (fitting_of t) (fitting_of v)) (list_all (sides_fit (fitting_of t)) (map fitting_of ts)) all).0
 pair_fits t (v ∷ ts) (suc place) u all at = pair_fits t ts place u (and_parts (sides_fit (fitting_of t) (fitting_of v)) (list_all (sides_fit (fitting_of t)) (map fitting_of ts)) all).1 at
 
+-- What SUM adds up is a part of it.
+total_is : (t : Term) → fitting_of (term.Aggregate agg_call.Sum t) ≡ fitting_step (Term-F.Aggregate agg_call.Sum (fitting_of t))
+total_is t = ap fitting_of (sym (term.rolls-Aggregate agg_call.Sum t)) ∙ fold-roll-Term Fitting Bool fitting_step fitting_addend (Term-F.Aggregate agg_call.Sum t)
+
 -- A part of which a kind is wanted keeps the rule where it is.
 part_fits : {t part : Term} {k : Kind} (want : Option Kind) → WantsOf t part k → fits t want ≡ true → fits part (Some k) ≡ true
 part_fits want (in_or ts t place at) kept = member_fits kind.Bool ts place t (inside (term.Or ts) (Term-F.Or (map fitting_of ts)) want (term-Or fitting_step fitting_addend ts) kept) at
@@ -111,6 +116,7 @@ part_fits want (in_like t pattern negated) kept = inside (term.Like t pattern ne
 part_fits want (in_sum members m place at) kept = addend_member_fits members place m (inside (term.Sum members) (Term-F.Sum (map addend_fits members)) want (term-Sum fitting_step fitting_addend members) kept) at
 part_fits want (in_product ts t place at) kept = member_fits kind.Int ts place t (inside (term.Product ts) (Term-F.Product (map fitting_of ts)) want (term-Product fitting_step fitting_addend ts) kept) at
 part_fits want (in_minus t) kept = inside (term.Minus t) (Term-F.Minus (fitting_of t)) want (term-Minus fitting_step fitting_addend t) kept
+part_fits want (in_total t) kept = inside (term.Aggregate agg_call.Sum t) (Term-F.Aggregate agg_call.Sum (fitting_of t)) want (total_is t) kept
 
 -- Two parts that are compared keep the rule beside one another.
 compared_fit : {whole t u : Term} (want : Option Kind) → Compares whole t u → fits whole want ≡ true → sides_fit (fitting_of t) (fitting_of u) ≡ true
@@ -245,7 +251,6 @@ module _ (scope : List (List ℕ)) (sides : List (Option Fields)) where
 
   pub sides_give : {whole t u : Term} (want : Option Kind) → Compares whole t u → fits whole want ≡ true → HoldsBeside t u × ((k : Kind) → ((own_of t ≡ Some k) ⊎ (own_of u ≡ Some k)) → MeanOneKind scope sides k t u)
   sides_give {whole} {t} {u} want compares kept =
-      let both = and_parts (side_fits (own_of u) (fitting_of t)) (side_fits (own_of t) (fitting_of u)) (compared_fit want compares kept) in
-      let left = and_parts (agree (own_of t) (own_of u)) (fits t (wanted_beside (own_of t) (own_of u))) both.0 in
-      let right = and_parts (agree (own_of u) (own_of t)) (fits u (wanted_beside (own_of u) (own_of t))) both.1 in
-      ((left.1, right.1), λ k one. (side_gives t (own_of u) k both.0 one, side_gives u (own_of t) k both.1 (swapped one)))
+      let held = compared_fit want compares kept in
+      let both = and_parts (side_fits (own_of u) (fitting_of t)) (side_fits (own_of t) (fitting_of u)) held in
+      (held, λ k one. (side_gives t (own_of u) k both.0 one, side_gives u (own_of t) k both.1 (swapped one)))

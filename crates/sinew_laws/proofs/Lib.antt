@@ -5,4 +5,6 @@ pub mod RunLemmas
 pub mod EndInputs
 pub mod EndLemmas
 pub mod MarkLemmas
+pub mod NameLemmas
 pub mod KindLemmas
+pub mod AcrossKinds

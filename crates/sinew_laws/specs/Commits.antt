@@ -1,5 +1,5 @@
 -- What a write leaves, and what a reading holds.
-use Rattle.std.specs.Prelude.{◌≡◌, ℕ, List, Some}
+use Rattle.std.specs.Prelude.{◌≡◌, ℕ, List, take, Some}
 use Rattle.sql_eval.specs.Contents.{Cells}
 use Rattle.commit_core.specs.Plan.{plan_of}
 use Rattle.commit_core.specs.Commits.{IsWrite}
@@ -13,10 +13,10 @@ abbrev pub LeavesOneThing : Type 0
 LeavesOneThing = (caller : ℕ) (text : List ℕ) (old one other : List Entry) (first second : Reply) →
     IsWrite caller text old one first → IsWrite caller text old other second → (one ≡ other) × (first ≡ second)
 
--- Readings of one text at one number that agree with the same commits have read the same rows, once both have read.
+-- Readings of one text at one number, over commits of which the first so many are the same, have read the same rows, once both have read.
 abbrev pub HoldsOneThing : Type 0
-HoldsOneThing = (a b : ReadingOf) (texts : List (List ℕ)) (one other : List Cells) → Agrees a texts → Agrees b texts →
-    a.text ≡ b.text → a.at ≡ b.at → a.rows ≡ Some one → b.rows ≡ Some other → one ≡ other
+HoldsOneThing = (a b : ReadingOf) (texts others : List (List ℕ)) (one other : List Cells) → Agrees a texts → Agrees b others →
+    a.text ≡ b.text → a.at ≡ b.at → take a.at texts ≡ take a.at others → a.rows ≡ Some one → b.rows ≡ Some other → one ≡ other
 
 -- A reading that agrees with commits is one of a question.
 abbrev pub IsOfAQuestion : Type 0

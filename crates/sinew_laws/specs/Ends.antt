@@ -8,27 +8,36 @@ use Rattle.sinew_app.specs.Outcome.{IsDone, IsRefused, IsBroken, IsUnwritten, Is
 use Rattle.sinew_app.specs.declared.status.Status.{Status}
 use Rattle.sinew_app.specs.declared.status.Status.TheVariants as status_of
 
--- Two runs from one source to one sink that are done leave both the same, and the same texts of commits, where source and sink tell their bytes.
+-- What a sink took in two runs stands in a relation, where it tells its bytes after both.
+abbrev pub WhereTold : (List ℕ → List ℕ → Type 0) → Option (List ℕ) → Option (List ℕ) → Type 0
+WhereTold Related (Some one) (Some other) = Related one other
+WhereTold Related _ _ = Unit {0}
+
+-- Bytes are a front of others, and not all of them.
+abbrev pub IsFrontOf : List ℕ → List ℕ → Type 0
+IsFrontOf one other = (rest : List ℕ) × (other ≡ one ++ rest) × (rest ≢ [])
+
+-- Two runs from one source to one sink that are done leave the source the same, with the same texts of commits, where it tells its bytes; and the sink the same, where this tells its bytes too.
 abbrev pub LeavesOneEnd : Type 0
-LeavesOneEnd = (left taken left_one left_other taken_one taken_other : List ℕ) (one other : List Entry) →
-    IsDone (Some left) (Some left_one) (Some taken) (Some taken_one) one →
-    IsDone (Some left) (Some left_other) (Some taken) (Some taken_other) other →
-    (left_one ≡ left_other) × (taken_one ≡ taken_other) × (texts_of one ≡ texts_of other)
+LeavesOneEnd = (left left_one left_other : List ℕ) (taken taken_one taken_other : Option (List ℕ)) (one other : List Entry) →
+    IsDone (Some left) (Some left_one) taken taken_one one →
+    IsDone (Some left) (Some left_other) taken taken_other other →
+    (left_one ≡ left_other) × WhereTold (λ a b. a ≡ b) taken_one taken_other × (texts_of one ≡ texts_of other)
 
--- Two runs from one source to one sink that are refused leave both the same, and the same commits, where source and sink tell their bytes.
+-- Two runs from one source to one sink that are refused leave the source the same, with the same commits, where it tells its bytes; and the sink the same, where this tells its bytes too.
 abbrev pub LeavesOneRefusal : Type 0
-LeavesOneRefusal = (left taken left_one left_other taken_one taken_other : List ℕ) (one other : List Entry) →
-    IsRefused (Some left) (Some left_one) (Some taken) (Some taken_one) one →
-    IsRefused (Some left) (Some left_other) (Some taken) (Some taken_other) other →
-    (left_one ≡ left_other) × (taken_one ≡ taken_other) × (one ≡ other)
+LeavesOneRefusal = (left left_one left_other : List ℕ) (taken taken_one taken_other : Option (List ℕ)) (one other : List Entry) →
+    IsRefused (Some left) (Some left_one) taken taken_one one →
+    IsRefused (Some left) (Some left_other) taken taken_other other →
+    (left_one ≡ left_other) × WhereTold (λ a b. a ≡ b) taken_one taken_other × (one ≡ other)
 
--- What a sink took of a text whose writing broke off is a front of what it takes where the same source is done or refused, and not all of that; and the store has the same texts of commits. This is where source and sink tell their bytes.
+-- A run whose writing broke off leaves the source as one from the same source that is done or refused, with the same texts of commits, where the source tells its bytes; and what the sink took is a front of what it takes there, and not all of that, where the sink tells its bytes too.
 abbrev pub LeavesAFront : Type 0
-LeavesAFront = (left taken left_one left_other taken_one taken_other : List ℕ) (one other : List Entry) →
-    IsBroken (Some left) (Some left_one) (Some taken) (Some taken_one) one →
-    (IsDone (Some left) (Some left_other) (Some taken) (Some taken_other) other
-    ⊎ IsRefused (Some left) (Some left_other) (Some taken) (Some taken_other) other) →
-    ((rest : List ℕ) × (taken_other ≡ taken_one ++ rest) × (rest ≢ [])) × (texts_of one ≡ texts_of other)
+LeavesAFront = (left left_one left_other : List ℕ) (taken taken_one taken_other : Option (List ℕ)) (one other : List Entry) →
+    IsBroken (Some left) (Some left_one) taken taken_one one →
+    (IsDone (Some left) (Some left_other) taken taken_other other
+    ⊎ IsRefused (Some left) (Some left_other) taken taken_other other) →
+    (left_one ≡ left_other) × WhereTold IsFrontOf taken_one taken_other × (texts_of one ≡ texts_of other)
 
 -- Wherever the writing breaks off for one source, the same is read and the store has the same texts of commits, where the source tells its bytes.
 abbrev pub LeavesItsCommits : Type 0

@@ -1,20 +1,24 @@
--- What holds of symbols and their marks, and of the kinds of what terms mean.
-use Rattle.std.specs.Prelude.{◌≡◌, ◌⊎◌, ℕ, List, Bool, true, Option, Some, is_some, IfSome, slice_get}
+-- What holds of symbols and their marks, of the kinds of what terms mean, and of comparisons of values.
+use Rattle.std.specs.Prelude.{◌≡◌, ◌≢◌, ◌⊎◌, ◌↔◌, ℕ, List, Bool, true, Option, Some, is_some, IfSome, slice_get}
 use Rattle.doc_values.specs.declared.compare_op.CompareOp.{CompareOp}
 use Rattle.doc_values.specs.declared.kind.Kind.{Kind}
 use Rattle.doc_values.specs.declared.kind.Kind.TheVariants as kind
+use Rattle.doc_values.specs.declared.value.Value.{Value}
 use Rattle.doc_values.specs.Value.{kind_of}
 use Rattle.doc_values.specs.Doc.{Fields}
 use Rattle.sql_tree.specs.declared.addend.Addend.{Addend}
+use Rattle.sql_tree.specs.declared.agg_call.AggCall.TheVariants as agg_call
 use Rattle.sql_tree.specs.declared.term.Term.{Term}
 use Rattle.sql_tree.specs.declared.term.Term.TheVariants as term
 use Rattle.sql_tokens.specs.Forms.{is_symbol}
 use Rattle.sql_grammar.specs.Words.{mark_of_symbol}
+use Rattle.sql_eval.specs.declared.truth_value.Truth.TheVariants.{Unknown}
 use Rattle.sql_eval.specs.Kinds.{wanted_beside}
 use Rattle.sql_eval.specs.Meaning.{meaning}
-use Rattle.type_rules.specs.Kinds.{fitting_of, fits}
+use Rattle.sql_eval.specs.Operators.{comparison}
+use Rattle.type_rules.specs.Kinds.{sides_fit, fitting_of, fits}
 
--- Each symbol has a mark, and no other bytes have one.
+-- Each symbol stands for a mark as a symbol, and no other bytes do; reserved words have theirs by `mark_of_word`.
 abbrev pub HaveMarks : Type 0
 HaveMarks = (bytes : List ℕ) → is_some (mark_of_symbol bytes) ≡ is_symbol bytes
 
@@ -26,7 +30,7 @@ MeansOneOf scope sides k t want = IfSome (meaning scope sides t want) (λ v. kin
 abbrev pub GivesWhatIsWanted : Type 0
 GivesWhatIsWanted = (scope : List (List ℕ)) (sides : List (Option Fields)) (t : Term) (want : Kind) → fits t (Some want) ≡ true → MeansOneOf scope sides want t (Some want)
 
--- A term has a part of which it wants a kind: a truth value of what AND, OR and NOT join, a number of what is computed with, a text of what LIKE tests.
+-- A term has a part of which it wants a kind: a truth value of what AND, OR and NOT join, a number of what is computed with and of what SUM adds up, a text of what LIKE tests.
 pub data WantsOf : Term → Term → Kind → Type 0 where
   in_or : (ts : List Term) (t : Term) (place : ℕ) → slice_get ts place ≡ Some t → WantsOf (term.Or ts) t kind.Bool
   in_and : (ts : List Term) (t : Term) (place : ℕ) → slice_get ts place ≡ Some t → WantsOf (term.And ts) t kind.Bool
@@ -35,6 +39,7 @@ pub data WantsOf : Term → Term → Kind → Type 0 where
   in_sum : (members : List Addend) (member : Addend) (place : ℕ) → slice_get members place ≡ Some member → WantsOf (term.Sum members) member.term kind.Int
   in_product : (ts : List Term) (t : Term) (place : ℕ) → slice_get ts place ≡ Some t → WantsOf (term.Product ts) t kind.Int
   in_minus : (t : Term) → WantsOf (term.Minus t) t kind.Int
+  in_total : (t : Term) → WantsOf (term.Aggregate agg_call.Sum t) t kind.Int
 
 -- Where a term keeps the rule of kinds, a part of which it wants a kind keeps it too, and means a value of that kind, or NULL.
 abbrev pub HasFittingParts : Type 0
@@ -52,9 +57,9 @@ pub data Compares : Term → Term → Term → Type 0 where
 abbrev pub own_of : Term → Option Kind
 own_of t = (fitting_of t).own
 
--- Two terms keep the rule beside one another.
+-- Two terms keep the rule of kinds as the sides of a comparison: their own kinds do not differ, and each keeps it where it stands.
 abbrev pub HoldsBeside : Term → Term → Type 0
-HoldsBeside t u = (fits t (wanted_beside (own_of t) (own_of u)) ≡ true) × (fits u (wanted_beside (own_of u) (own_of t)) ≡ true)
+HoldsBeside t u = sides_fit (fitting_of t) (fitting_of u) ≡ true
 
 -- What two terms mean beside one another is of a kind, or NULL.
 abbrev pub MeanOneKind : List (List ℕ) → List (Option Fields) → Kind → Term → Term → Type 0
@@ -64,3 +69,7 @@ MeanOneKind scope sides k t u = MeansOneOf scope sides k t (wanted_beside (own_o
 abbrev pub ComparesOneKind : Type 0
 ComparesOneKind = (scope : List (List ℕ)) (sides : List (Option Fields)) (whole t u : Term) (want : Option Kind) → Compares whole t u → fits whole want ≡ true →
     HoldsBeside t u × ((k : Kind) → ((own_of t ≡ Some k) ⊎ (own_of u ≡ Some k)) → MeanOneKind scope sides k t u)
+
+-- The comparison of two values is unknown exactly where their kinds differ, whatever the sign.
+abbrev pub IsUnknownAcrossKinds : Type 0
+IsUnknownAcrossKinds = (op : CompareOp) (a b : Value) → (comparison op (Some a) (Some b) ≡ Unknown) ↔ (kind_of a ≢ kind_of b)

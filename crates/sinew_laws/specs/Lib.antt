@@ -2,4 +2,5 @@ pub mod States
 pub mod Commits
 pub mod Runs
 pub mod Ends
+pub mod Names
 pub mod Kinds

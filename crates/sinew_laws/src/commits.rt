@@ -6,8 +6,8 @@ pub fn a_write_leaves_one_thing()
     ensures { LeavesOneThing }
 {}
 
-/// Law: readings of one text at one number that agree with the same commits have read the same rows, once both have
-/// read.
+/// Law: readings of one text at one number, over commits of which the first so many are the same, have read the same rows,
+/// once both have read.
 pub fn readings_of_one_number_hold_one_thing()
     ensures { HoldsOneThing }
 {}

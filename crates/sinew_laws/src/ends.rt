@@ -3,22 +3,23 @@ ghost use Rattle.sinew_laws.specs.Ends.{BlamesNoDevice, LeavesAFront, LeavesItsC
 
 use sinew_app::a_script_has_one_serial_run;
 
-/// Law: two runs from one source to one sink that are done leave both the same, and the same texts of commits, where
-/// source and sink tell their bytes.
+/// Law: two runs from one source to one sink that are done leave the source the same, with the same texts of commits, where
+/// it tells its bytes; and the sink the same, where this tells its bytes too.
 pub fn a_done_run_leaves_one_thing()
     ensures { LeavesOneEnd }
 {
     a_script_has_one_serial_run();
 }
 
-/// Law: two runs from one source to one sink that are refused leave both the same, and the same commits, where source
-/// and sink tell their bytes.
+/// Law: two runs from one source to one sink that are refused leave the source the same, with the same commits, where it
+/// tells its bytes; and the sink the same, where this tells its bytes too.
 pub fn a_refusal_leaves_one_thing()
     ensures { LeavesOneRefusal }
 {}
 
-/// Law: what a sink took of a text whose writing broke off is a front of what it takes where the same source is done or
-/// refused, and not all of that, with the same texts of commits, where source and sink tell their bytes.
+/// Law: a run whose writing broke off leaves the source as one from the same source that is done or refused, with the same
+/// texts of commits, where the source tells its bytes; and what the sink took is a front of what it takes there, and not
+/// all of that, where the sink tells its bytes too.
 pub fn a_broken_writing_leaves_a_front()
     ensures { LeavesAFront }
 {

@@ -1,7 +1,9 @@
 // Laws of symbols and of kinds.
-ghost use Rattle.sinew_laws.specs.Kinds.{ComparesOneKind, GivesWhatIsWanted, HasFittingParts, HaveMarks};
+ghost use Rattle.sinew_laws.specs.Kinds.{ComparesOneKind, GivesWhatIsWanted, HasFittingParts, HaveMarks, IsUnknownAcrossKinds};
 
-/// Law: each symbol has a mark, and no other bytes have one.
+use doc_values::values_are_in_total_order;
+
+/// Law: each symbol stands for a mark as a symbol, and no other bytes do; reserved words have theirs by `mark_of_word`.
 pub fn each_symbol_has_a_mark()
     ensures { HaveMarks }
 {}
@@ -16,7 +18,15 @@ pub fn parts_are_of_the_wanted_kind()
     ensures { HasFittingParts }
 {}
 
-/// Law: where a term keeps the rule of kinds, so do parts that it compares, which are of one kind if a side has one by itself.
+/// Law: where a term keeps the rule of kinds, so do parts that it compares, as the sides of a comparison, and they mean values
+/// of one kind if a side has one by itself.
 pub fn comparisons_are_of_one_kind()
     ensures { ComparesOneKind }
 {}
+
+/// Law: the comparison of two values is unknown exactly where their kinds differ, whatever the sign.
+pub fn comparisons_of_other_kinds_are_unknown()
+    ensures { IsUnknownAcrossKinds }
+{
+    values_are_in_total_order();
+}

@@ -1,4 +1,4 @@
-//! What follows of the definitions of kinds, states, commits, readings, runs and ends: laws, and no code.
+//! What follows of the definitions of symbols, names, kinds, states, commits, readings, runs and ends: laws, and no code.
 //!
 //! Its one promise is its laws. Most of them are false of some definition that says less, where no test and no worked
 //! row would show the difference. It knows nothing of how anything is computed.
@@ -8,6 +8,7 @@
 mod commits;
 mod ends;
 mod kinds;
+mod names;
 mod runs;
 mod states;
 
@@ -20,9 +21,10 @@ pub use ends::{
     the_input_alone_blames_no_device,
 };
 pub use kinds::{
-    comparisons_are_of_one_kind, each_symbol_has_a_mark, parts_are_of_the_wanted_kind,
-    values_are_of_the_wanted_kind,
+    comparisons_are_of_one_kind, comparisons_of_other_kinds_are_unknown, each_symbol_has_a_mark,
+    parts_are_of_the_wanted_kind, values_are_of_the_wanted_kind,
 };
+pub use names::one_of_several_tables_is_named;
 pub use runs::{
     commits_of_a_session_keep_its_order, exactly_accepted_writes_are_commits,
     numbers_are_at_most_all_commits, numbers_of_a_session_never_fall,
