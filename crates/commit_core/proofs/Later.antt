@@ -1,5 +1,5 @@
 -- What is not accepted leaves the state as it is, and readings go on agreeing.
-use Rattle.std.proofs.Common.{◌≡◌, ℕ, false, List, ◌++◌, refl, sym, ap, ◌∙◌, arith, length-append}
+use Rattle.std.proofs.Common.{◌≡◌, ℕ, ◌≤◌, false, List, ◌++◌, length, take, refl, sym, ap, ◌∙◌, arith, length-append}
 use Rattle.std.proofs.lemmas.List.{take-append-le}
 use Rattle.query_meaning.specs.Plans.{rows_read}
 use Rattle.commit_core.specs.State.{State}
