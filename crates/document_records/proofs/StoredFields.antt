@@ -181,6 +181,15 @@ kind_in kind.Text bytes = refl
 kind_in kind.Array bytes = refl
 kind_in kind.Object bytes = refl
 
+kind_found : (of : Kind) (v : Value) (o : Option (List ℕ)) → option_map (value_in of) o ≡ Some v → kind_of v ≡ of
+kind_found of v None h = absurd (none-some v h)
+kind_found of v (Some bytes) h = ap kind_of (sym (same_Some (value_in of bytes) v h)) ∙ kind_in of bytes
+
+-- what is found at a kind is of that kind
+pub kind_under : (of : Kind) (v : Value) (o : Option AttrId) (fields : List Field) → value_of_kind of o fields ≡ Some v → kind_of v ≡ of
+kind_under of v None fields h = absurd (none-some v h)
+kind_under of v (Some id) fields h = kind_found of v (value_of id.0 fields) h
+
 module _ (puts : PutsAlone) (attributes : List Attribute) (once : IsOnce attributes) (fs : List Field) (kept : IsKept (pairs_of attributes) fs) (name : List ℕ) where
   abbrev document : Fields
   document = document_stored (pairs_of attributes) fs

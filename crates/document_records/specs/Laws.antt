@@ -14,11 +14,12 @@ use Rattle.attr_catalog.specs.Catalog.{id_of, kinds_of, IsOnce}
 use Rattle.document_records.specs.ReadBack.{value_of_kind, value_under, CanBeRead}
 use Rattle.document_records.specs.StoredDocument.{Pairs, pairs_of, document_stored, IsFieldOf, IsKept}
 
--- What the fields of a record have under a name is what their document has there: of whichever kind, and of one kind, where a value is found exactly if the document has it and it is of that kind.
+-- The fields of a record can be read at each kind of a name, and what they have under it is what their document has there: of whichever kind, and of one kind, where a value is found exactly if the document has it and it is of that kind.
 pub record AreOfDocument (attributes : List Attribute) (fields : List Field) (name : List ℕ) : Type 0 where
   pub readable : CanBeRead (kinds_of name attributes) fields
   pub found : value_under (kinds_of name attributes) fields ≡ value_at name (document_stored (pairs_of attributes) fields)
   pub only : (of : Kind) (v : Value) → value_of_kind of (id_of name of attributes) fields ≡ Some v → value_at name (document_stored (pairs_of attributes) fields) ≡ Some v
+  pub alike : (of : Kind) (v : Value) → value_of_kind of (id_of name of attributes) fields ≡ Some v → kind_of v ≡ of
   pub each : (v : Value) → value_at name (document_stored (pairs_of attributes) fields) ≡ Some v → value_of_kind (kind_of v) (id_of name (kind_of v) attributes) fields ≡ Some v
 
 -- That holds of each record that is kept, where no pair has two numbers.

@@ -17,11 +17,11 @@ Pairs = List (List ℕ × Kind)
 abbrev pub pairs_of : List Attribute → Pairs
 pairs_of attributes = map (λ a. (a.name, a.kind)) attributes
 
--- A document with the value of a field put under the name that its number has.
+-- A document with the value of a field put under the name that its number has; where its number has none, the document as it is.
 abbrev pub with_stored : Pairs → Field → Fields → Fields
 with_stored pairs field document = option_map_or (λ pair. with_field document pair.0 (value_in pair.1 field.bytes)) (slice_get pairs field.id) document
 
--- The document that the fields of a record stand for.
+-- The document that the fields of a record stand for; of two under one name the first stands.
 abbrev pub document_stored : Pairs → List Field → Fields
 document_stored pairs [] = []
 document_stored pairs (f ∷ fs) = with_stored pairs f (document_stored pairs fs)
@@ -34,7 +34,7 @@ document_with pairs document fields = fold (λ d f. with_stored pairs f d) docum
 abbrev pub IsFieldOf : Pairs → List ℕ × Value → Field → Type 0
 IsFieldOf pairs f x = (slice_get pairs x.id ≡ Some (f.0, kind_of f.1)) × (x.bytes ≡ bytes_of f.1) × AreReadable (kind_of f.1) (bytes_of f.1)
 
--- Bytes are what is stored for a pair of a document: under that name stands what they are at that kind, and they are the bytes of it.
+-- Bytes are what is stored for a pair of a document: they can be read at its kind, under that name stands what they are at that kind, and they are the bytes of it.
 pub record IsStored (document : Fields) (bytes : List ℕ) (pair : List ℕ × Kind) : Type 0 where
   pub readable : AreReadable pair.1 bytes
   pub stands : value_at pair.0 document ≡ Some (value_in pair.1 bytes)
@@ -44,6 +44,6 @@ pub record IsStored (document : Fields) (bytes : List ℕ) (pair : List ℕ × K
 abbrev pub IsHeld : Pairs → Fields → Field → Type 0
 IsHeld pairs document field = MatchOption (slice_get pairs field.id) ⊥ (IsStored document field.bytes)
 
--- The document that fields stand for holds each of them; so no name stands twice, where each pair has one number.
+-- The document that fields stand for holds each of them; so no name stands twice, where each pair has one number and each number stands once.
 abbrev pub IsKept : Pairs → List Field → Type 0
 IsKept pairs fields = All (IsHeld pairs (document_stored pairs fields)) fields

@@ -6,7 +6,7 @@ use Rattle.doc_values.specs.declared.kind.Kind as kind
 use Rattle.doc_values.specs.declared.value.Value as value
 use Rattle.doc_values.specs.Value.{kind_of, IsStorable}
 
--- A truth value is one byte, a number eight in two's complement with the lowest first, a text or an array its text, and an object nothing.
+-- A truth value is one byte, 1 or 0, a number eight in two's complement with the lowest first, a text or an array its text, and an object nothing.
 abbrev pub bytes_of : value.Value → List ℕ
 bytes_of (value.TheVariants.Bool b) = from_bool b ∷ []
 bytes_of (value.TheVariants.Int n) = to_le_bytes w64 (cast_unsigned w64 n)

@@ -1,4 +1,4 @@
-// Laws of the definitions, for the crates above.
+// Laws of records and their documents.
 ghost use Rattle.document_records.specs.Laws.{DocumentsAreKept, RecordsAreDocuments};
 
 use doc_values::documents_are_maps;

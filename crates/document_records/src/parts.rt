@@ -11,7 +11,7 @@ use doc_values::Value;
 use reservoir_record::parts_of_one_more;
 use std::alloc::{AllocError, Global};
 
-/// The numbers, ends and values of a record's fields. Their memory is used again for each document of a load.
+/// The numbers, ends and values of a record's fields. Their memory is used again after `clear`.
 #[derive(Drop)]
 pub struct Parts {
     ids: Vec<u32>,

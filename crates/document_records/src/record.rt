@@ -31,7 +31,7 @@ impl Model for Record {
 
 impl Record {
     /// The record of fields whose parts lie apart.
-    pub fn from_parts(
+    pub(crate) fn from_parts(
         alloc: Global,
         ids: &[u32],
         ends: &[u32],

@@ -39,7 +39,7 @@ LeavesAFront = (left left_one left_other : List ℕ) (taken taken_one taken_othe
     ⊎ IsRefused (Some left) (Some left_other) taken taken_other other) →
     (left_one ≡ left_other) × WhereTold IsFrontOf taken_one taken_other × (texts_of one ≡ texts_of other)
 
--- Wherever the writing breaks off for one source, the same is read and the store has the same texts of commits, where the source tells its bytes.
+-- Wherever the writing breaks off from one source to one sink, the same is read and the store has the same texts of commits, where the source tells its bytes.
 abbrev pub LeavesItsCommits : Type 0
 LeavesItsCommits = (left left_one left_other : List ℕ) (taken taken_one taken_other : Option (List ℕ)) (one other : List Entry) →
     IsBroken (Some left) (Some left_one) taken taken_one one →

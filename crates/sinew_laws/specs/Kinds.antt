@@ -18,7 +18,7 @@ use Rattle.sql_eval.specs.Meaning.{meaning}
 use Rattle.sql_eval.specs.Operators.{comparison}
 use Rattle.type_rules.specs.Kinds.{sides_fit, fitting_of, fits}
 
--- Each symbol stands for a mark as a symbol, and no other bytes do; reserved words have theirs by `mark_of_word`.
+-- Each symbol stands for a mark by `mark_of_symbol`, and no other bytes do.
 abbrev pub HaveMarks : Type 0
 HaveMarks = (bytes : List ℕ) → is_some (mark_of_symbol bytes) ≡ is_symbol bytes
 
@@ -41,7 +41,7 @@ pub data WantsOf : Term → Term → Kind → Type 0 where
   in_minus : (t : Term) → WantsOf (term.Minus t) t kind.Int
   in_total : (t : Term) → WantsOf (term.Aggregate agg_call.Sum t) t kind.Int
 
--- Where a term keeps the rule of kinds, a part of which it wants a kind keeps it too, and means a value of that kind, or NULL.
+-- Where a term keeps the rule of kinds, a part of which it wants a kind keeps it too where that kind is wanted, and means a value of that kind, or NULL.
 abbrev pub HasFittingParts : Type 0
 HasFittingParts = (scope : List (List ℕ)) (sides : List (Option Fields)) (t part : Term) (want : Option Kind) (k : Kind) → WantsOf t part k → fits t want ≡ true →
     (fits part (Some k) ≡ true) × MeansOneOf scope sides k part (Some k)

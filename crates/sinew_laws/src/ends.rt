@@ -26,8 +26,8 @@ pub fn a_broken_writing_leaves_a_front()
     a_script_has_one_serial_run();
 }
 
-/// Law: wherever the writing breaks off for one source, the same is read and the store has the same texts of commits,
-/// where the source tells its bytes.
+/// Law: wherever the writing breaks off from one source to one sink, the same is read and the store has the same texts
+/// of commits, where the source tells its bytes.
 pub fn a_broken_run_leaves_its_commits()
     ensures { LeavesItsCommits }
 {

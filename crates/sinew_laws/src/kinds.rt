@@ -3,7 +3,7 @@ ghost use Rattle.sinew_laws.specs.Kinds.{ComparesOneKind, GivesWhatIsWanted, Has
 
 use doc_values::values_are_in_total_order;
 
-/// Law: each symbol stands for a mark as a symbol, and no other bytes do; reserved words have theirs by `mark_of_word`.
+/// Law: each symbol stands for a mark by `mark_of_symbol`, and no other bytes do.
 pub fn each_symbol_has_a_mark()
     ensures { HaveMarks }
 {}
