@@ -14,11 +14,27 @@ pub(crate) fn answer(alloc: Global, star: bool, rows: &[OutRow]) -> Result<Bytes
     ensures ok { IfOk result (λ text. text ≡ answer_text star rows.now) }
 {
     let mut text = Vec::new(alloc);
+    let mut line = Vec::new(alloc);
     for row in rows {
-        append_row(star, row, &mut text)?;
+        append_line(star, row, &mut line, &mut text)?;
     }
     append_count(alloc, rows.len(), &mut text)?;
     Ok(Bytes::from_vec(text))
+}
+
+// Appends the line of a row, which is made by itself: a writer fills room ahead of what it writes, the more the longer the
+// text is that it goes on from.
+fn append_line(
+    star: bool,
+    row: &OutRow,
+    line: &mut Vec<u8>,
+    text: &mut Vec<u8>,
+) -> Result<(), AllocError>
+    ensures ok { OnOk result (text.new.items ≡ text.old.items ++ row_line star row.now) }
+{
+    line.clear();
+    append_row(star, row, line)?;
+    text.extend_from_slice(line.as_slice())
 }
 
 fn append_count(alloc: Global, rows: usize, text: &mut Vec<u8>) -> Result<(), AllocError>
