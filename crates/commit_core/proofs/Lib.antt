@@ -14,4 +14,3 @@ pub mod PairsHeld
 pub mod Places
 pub mod Lights
 mod StoredRows
-pub mod NeededTuples

@@ -9,4 +9,3 @@ pub mod Planned
 pub mod StoredTable
 pub mod Loading
 pub mod StoredRow
-pub mod Needed

@@ -5,7 +5,6 @@
 //! first: the reply to a text over a state, and the state after texts, are what the promise rests on.
 #![tactic(auto)]
 
-mod answering;
 mod collections;
 mod column_path;
 mod counting;

@@ -1,9 +1,9 @@
 ghost use Rattle.std.specs.Prelude.{◌≡◌, IfOk, IsSome, ℕ, List, Some, None, take, false, length, map, All};
 ghost use Rattle.commit_core.specs.Replies.{reply_at, told_of, state_after};
 
-use crate::answering::answer;
 use crate::reply::Reply;
 use doc_values::Utf;
+use query_meaning::{answer, plans_can_be_run, plans_keep_meaning};
 use sql_eval::{Row, SelectPlan};
 use std::alloc::AllocError;
 use std::marker::Model;
@@ -81,6 +81,8 @@ impl Reading {
         ensures exact { IfOk result (λ r. (question : Select) (documents : List Fields) → plan_of self.text ≡ read question → self.rows ≡ Some (rows_read question documents) →
             r ≡ record { at = self.at; accepted = false; body = answer_among question documents }) }
     {
+        plans_keep_meaning();
+        plans_can_be_run();
         let Reading { plan, at, rows, .. } = self;
         let Some(rows) = rows else { unreachable!() };
         let body = answer(&plan, rows)?;

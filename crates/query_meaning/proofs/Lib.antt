@@ -1,2 +1,3 @@
 pub mod PlansAnswer
 pub mod PlansRun
+pub mod NeededTuples

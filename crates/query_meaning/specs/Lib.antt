@@ -1,3 +1,4 @@
 pub mod Question
 pub mod Plans
 pub mod Runs
+pub mod Needed

@@ -1,10 +1,14 @@
-//! What a question over one table means over documents, and that a plan of it, run over rows, answers that.
+//! What a question over one table means over documents, and the answer of a plan of it over rows.
 //!
-//! Its promises are two laws: a plan over the rows that are read of documents answers what the question means over
-//! those documents, and each expression of it can be computed there. It knows nothing of stores, and has no code.
-//! Read `specs/Question.antt` first, then `specs/Plans.antt`.
+//! Its promise is a call, which answers what a plan means over rows, and two laws: over the rows that are read of
+//! documents that is what the question means over those documents, and each expression of a plan can be computed there.
+//! It knows nothing of texts and stores. Read `specs/Question.antt` first, then `specs/Plans.antt`.
 #![tactic(auto)]
 
+mod answering;
 mod plan_laws;
+#[cfg(test)]
+mod tests;
 
+pub use answering::answer;
 pub use plan_laws::{plans_can_be_run, plans_keep_meaning};

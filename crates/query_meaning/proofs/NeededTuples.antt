@@ -6,7 +6,7 @@ use Rattle.std.proofs.lemmas.List.Elements.{All-take}
 use Rattle.sql_eval.specs.Contents.{Cells, Output}
 use Rattle.sql_eval.specs.declared.key_plan.KeyPlan.{KeyPlan}
 use Rattle.exec_finish.specs.Answer.{limited, finished}
-use Rattle.commit_core.specs.Needed.{needed_by, stand_as_they_come}
+use Rattle.query_meaning.specs.Needed.{needed_by, stand_as_they_come}
 
 abbrev Tuples : Type 0
 Tuples = List (List (Option Cells))

@@ -1,29 +1,20 @@
-ghost use Rattle.std.specs.Prelude.{◌≡◌, All, IfOk, IfSome, List, take};
-ghost use Rattle.doc_values.specs.Doc.{Fields};
+ghost use Rattle.std.specs.Prelude.{◌≡◌, All, IfOk, IfSome, take};
 ghost use Rattle.sql_eval.specs.Widths.{CanEvaluate};
-ghost use Rattle.query_meaning.specs.Question.{answer_among};
-ghost use Rattle.query_meaning.specs.Plans.{kept_by, rows_read, tuples_over};
-ghost use Rattle.query_meaning.specs.Runs.{IsStorableRow};
-ghost use Rattle.commit_core.specs.Plan.{Plan};
-ghost use Rattle.commit_core.specs.Planned.{IsReadAs};
-ghost use Rattle.commit_core.specs.Needed.{needed_of, stand_as_they_come};
+ghost use Rattle.query_meaning.specs.Needed.{needed_of, stand_as_they_come};
+ghost use Rattle.query_meaning.specs.Plans.{answer_of_plan, kept_by, tuples_over};
+ghost use Rattle.query_meaning.specs.Runs.{CanRunOver};
 
 use doc_values::Bytes;
 use exec_finish::{a_limit_may_come_first, finish, plain_values};
 use exec_join::filter;
-use query_meaning::{plans_can_be_run, plans_keep_meaning};
 use sql_eval::{Row, SelectPlan, Tuple, Tuples};
 use std::alloc::{AllocError, Global};
 
-/// The answer to a question over the rows of its table.
-pub(crate) fn answer(plan: &SelectPlan, rows: Vec<Row>) -> Result<Bytes, AllocError>
-    requires asked { (p : Plan) × IsReadAs plan.now p }
-    requires storable { All IsStorableRow rows.items }
-    ensures ok { IfOk result (λ body. (p : Plan) (asked : IsReadAs plan.now p) (documents : List Fields) → rows.items ≡ rows_read asked.question documents →
-        body ≡ answer_among asked.question documents) }
+/// The answer of a plan over the rows of its table.
+pub fn answer(plan: &SelectPlan, rows: Vec<Row>) -> Result<Bytes, AllocError>
+    requires { CanRunOver plan.now rows.items }
+    ensures ok { IfOk result (λ body. body ≡ answer_of_plan plan.now rows.items) }
 {
-    plans_keep_meaning();
-    plans_can_be_run();
     a_limit_may_come_first();
     let alloc = *rows.allocator();
     let tuples = tuples(alloc, rows)?;
