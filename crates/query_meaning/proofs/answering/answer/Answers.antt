@@ -1,10 +1,10 @@
-use Rattle.std.proofs.Common.{◌∙◌, ap, map}
+use Rattle.std.proofs.Common.{◌≡◌, ◌∙◌, ℕ, List, ap, map}
 use Rattle.std.specs.Prelude.{All}
 use Rattle.std.proofs.lemmas.Result.{IfOk-weaker}
 use Rattle.sql_eval.specs.Widths.{CanEvaluate}
 use Rattle.sql_eval.specs.declared.key_plan.KeyPlan.{KeyPlan}
 use Rattle.exec_finish.specs.Answer.{finished}
-use Rattle.query_meaning.specs.Plans.{tuples_over, kept_by, output_by}
+use Rattle.query_meaning.specs.Plans.{tuples_over, kept_by, output_by, answer_of_plan}
 use Rattle.query_meaning.specs.Needed.{needed_of, stand_as_they_come}
 use Rattle.query_meaning.proofs.NeededTuples.{All-needed, answers_needed}
 use Rattle.query_meaning.proofs.answering.answer.Goals as goal
@@ -26,7 +26,9 @@ pub returns : goal.returns
 returns c =
     let p = c.args.plan.now in
     let descending = map (λ (k : KeyPlan). k.descending) p.keys in
-    record { ok = IfOk-weaker _ _ _ (λ body told.
+    let whole : (body : List ℕ) → body ≡ finished p.distinct descending p.limit p.star c.in_ok-outputs.outputs → body ≡ answer_of_plan p c.args.rows.items =
+    λ body told.
     told
     ∙ ap (finished p.distinct descending p.limit p.star) (c.in_ok-outputs.ensures.ok ∙ ap (map (output_by p)) (c.needed-needed.ensures.exact ∙ ap (needed_of p) (c.in_ok-kept.ensures.ok ∙ ap (kept_by p.test) c.in_ok-tuples.ensures.ok)))
-    ∙ answers_needed c.a_limit_may_come_first.ensures (output_by p) p.distinct p.keys p.limit p.star (kept_by p.test (tuples_over c.args.rows.items))) c.finish.ensures.ok }
+    ∙ answers_needed c.a_limit_may_come_first.ensures (output_by p) p.distinct p.keys p.limit p.star (kept_by p.test (tuples_over c.args.rows.items)) in
+    record { ok = IfOk-weaker _ _ _ whole c.finish.ensures.ok }
