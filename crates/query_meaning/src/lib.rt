@@ -7,8 +7,6 @@
 
 mod answering;
 mod plan_laws;
-#[cfg(test)]
-mod tests;
 
 pub use answering::answer;
 pub use plan_laws::{plans_can_be_run, plans_keep_meaning};
