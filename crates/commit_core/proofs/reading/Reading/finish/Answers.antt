@@ -1,7 +1,9 @@
-use Rattle.std.proofs.Common.{◌∙◌, List, ℕ, option_map, Vec, Global, sym, ap, take, false}
+use Rattle.std.proofs.Common.{◌∙◌, List, ℕ, Option, option_map, Vec, Global, sym, ap, subst, take, false}
+use Rattle.std.specs.Prelude.{All, IfSome}
 use Rattle.std.proofs.lemmas.Option.{same_Some}
 use Rattle.sql_eval.specs.declared.row.Row.{Row}
 use Rattle.query_meaning.specs.Plans.{rows_read, answer_of_plan}
+use Rattle.query_meaning.specs.Runs.{IsStorableRow}
 use Rattle.commit_core.specs.Query.{documents_asked}
 use Rattle.commit_core.specs.Replies.{state_after}
 use Rattle.commit_core.proofs.Agreements.{told_answer, answered_alike}
@@ -10,7 +12,7 @@ use Rattle.commit_core.proofs.reading.Reading.finish.Goals as goal
 pub answer-requires : goal.answer-requires
 answer-requires c =
     let asked = c.self.invariant.0 in
-    c.plans_can_be_run.ensures.law asked.question c.self.inside.plan asked.resolves asked.runs c.in-Some.rows.items (stored c.self.invariant.1)
+    c.plans_can_be_run.ensures.law asked.question c.self.inside.plan asked.resolves asked.runs c.in-Some.rows.items (subst (λ (o : Option (Vec Row Global)). IfSome o (λ (v : Vec Row Global). All IsStorableRow v.items)) c.in-Some.is c.self.invariant.1)
 
 pub returns-clause-ok : goal.returns-clause-ok
 returns-clause-ok c =
