@@ -14,27 +14,12 @@ pub(crate) fn answer(alloc: Global, star: bool, rows: &[OutRow]) -> Result<Bytes
     ensures ok { IfOk result (λ text. text ≡ answer_text star rows.now) }
 {
     let mut text = Vec::new(alloc);
-    let mut line = Vec::new(alloc);
+    let mut scratch = Vec::new(alloc);
     for row in rows {
-        append_line(star, row, &mut line, &mut text)?;
+        append_row(star, row, &mut scratch, &mut text)?;
     }
     append_count(alloc, rows.len(), &mut text)?;
     Ok(Bytes::from_vec(text))
-}
-
-// Appends the line of a row, which is made by itself: a writer fills room ahead of what it writes, the more the longer the
-// text is that it goes on from.
-fn append_line(
-    star: bool,
-    row: &OutRow,
-    line: &mut Vec<u8>,
-    text: &mut Vec<u8>,
-) -> Result<(), AllocError>
-    ensures ok { OnOk result (text.new.items ≡ text.old.items ++ row_line star row.now) }
-{
-    line.clear();
-    append_row(star, row, line)?;
-    text.extend_from_slice(line.as_slice())
 }
 
 fn append_count(alloc: Global, rows: usize, text: &mut Vec<u8>) -> Result<(), AllocError>
@@ -43,78 +28,121 @@ fn append_count(alloc: Global, rows: usize, text: &mut Vec<u8>) -> Result<(), Al
     text.extend_from_slice(format!(in alloc; "ok {rows}\n")?.as_bytes())
 }
 
-fn append_row(star: bool, row: &OutRow, text: &mut Vec<u8>) -> Result<(), AllocError>
+fn append_row(
+    star: bool,
+    row: &OutRow,
+    scratch: &mut Vec<u8>,
+    text: &mut Vec<u8>,
+) -> Result<(), AllocError>
     ensures ok { OnOk result (text.new.items ≡ text.old.items ++ row_line star row.now) }
 {
     if star {
-        append_document(row.doc(), text)
+        append_document(row.doc(), scratch, text)
     } else {
-        append_items(row.items(), text)
+        append_items(row.items(), scratch, text)
     }
 }
 
-fn append_items(items: &[Option<Value>], text: &mut Vec<u8>) -> Result<(), AllocError>
+fn append_items(
+    items: &[Option<Value>],
+    scratch: &mut Vec<u8>,
+    text: &mut Vec<u8>,
+) -> Result<(), AllocError>
     ensures ok { OnOk result (text.new.items ≡ text.old.items ++ line (items_text items.now)) }
 {
     text.push(b'[')?;
-    append_values(items, text)?;
+    append_values(items, scratch, text)?;
     text.extend_from_slice(b"]\n")
 }
 
 // The values with a comma between any two.
-fn append_values(items: &[Option<Value>], text: &mut Vec<u8>) -> Result<(), AllocError>
+fn append_values(
+    items: &[Option<Value>],
+    scratch: &mut Vec<u8>,
+    text: &mut Vec<u8>,
+) -> Result<(), AllocError>
     ensures ok { OnOk result (text.new.items ≡ text.old.items ++ separated (map printed items.now)) }
 {
     let Some((first, others)) = items.split_first() else {
         return Ok(());
     };
-    spell(first.as_ref(), text)?;
+    append_value(first.as_ref(), scratch, text)?;
     for item in others {
         text.push(b',')?;
-        spell(item.as_ref(), text)?;
+        append_value(item.as_ref(), scratch, text)?;
     }
     Ok(())
 }
 
-fn append_document(doc: Option<&Doc>, text: &mut Vec<u8>) -> Result<(), AllocError>
+fn append_document(
+    doc: Option<&Doc>,
+    scratch: &mut Vec<u8>,
+    text: &mut Vec<u8>,
+) -> Result<(), AllocError>
     ensures ok { OnOk result (text.new.items ≡ text.old.items ++ line (document_text (unwrap_or (option_copied doc.entry) []))) }
 {
     text.push(b'{')?;
     if let Some(doc) = doc {
-        append_members(doc, text)?;
+        append_members(doc, scratch, text)?;
     }
     text.extend_from_slice(b"}\n")
 }
 
 // The fields with a comma between any two.
-fn append_members(doc: &Doc, text: &mut Vec<u8>) -> Result<(), AllocError>
+fn append_members(doc: &Doc, scratch: &mut Vec<u8>, text: &mut Vec<u8>) -> Result<(), AllocError>
     ensures ok { OnOk result (text.new.items ≡ text.old.items ++ separated (map member_text doc.now)) }
 {
     if doc.len() == 0 {
         return Ok(());
     }
-    append_member(doc.field(0), text)?;
+    append_member(doc.field(0), scratch, text)?;
     for place in 1..doc.len() {
         text.push(b',')?;
-        append_member(doc.field(place), text)?;
+        append_member(doc.field(place), scratch, text)?;
     }
     Ok(())
 }
 
-fn append_member(field: (&str, &Value), text: &mut Vec<u8>) -> Result<(), AllocError>
+fn append_member(
+    field: (&str, &Value),
+    scratch: &mut Vec<u8>,
+    text: &mut Vec<u8>,
+) -> Result<(), AllocError>
     ensures ok { OnOk result (text.new.items ≡ text.old.items ++ member_text (field.entry.0.now, field.entry.1.now)) }
 {
-    append_name(field.0, text)?;
-    spell(Some(field.1), text)
+    append_name(field.0, scratch, text)?;
+    append_value(Some(field.1), scratch, text)
 }
 
-// The name in quotes and with its colon, by a writer that goes on where the text ends.
-fn append_name(name: &str, text: &mut Vec<u8>) -> Result<(), AllocError>
+// A value, and likewise a name, is made in a scratch buffer that is empty before: a writer fills room ahead of what it
+// writes, the more the longer the text is that it goes on from.
+fn append_value(
+    value: Option<&Value>,
+    scratch: &mut Vec<u8>,
+    text: &mut Vec<u8>,
+) -> Result<(), AllocError>
+    ensures ok { OnOk result (text.new.items ≡ text.old.items ++ printed (option_copied value.entry)) }
+{
+    scratch.clear();
+    spell(value, scratch)?;
+    text.extend_from_slice(scratch.as_slice())
+}
+
+fn append_name(name: &str, scratch: &mut Vec<u8>, text: &mut Vec<u8>) -> Result<(), AllocError>
     ensures ok { OnOk result (text.new.items ≡ text.old.items ++ (quoted name.now ++ codes ":")) }
 {
-    let empty = Vec::new(*text.allocator());
-    let mut writer = Writer::new(mem::replace(text, empty));
+    scratch.clear();
+    spell_name(name, scratch)?;
+    text.extend_from_slice(scratch.as_slice())
+}
+
+// The name in quotes and with its colon, by a writer that goes on where the bytes end.
+fn spell_name(name: &str, out: &mut Vec<u8>) -> Result<(), AllocError>
+    ensures ok { OnOk result (out.new.items ≡ out.old.items ++ (quoted name.now ++ codes ":")) }
+{
+    let empty = Vec::new(*out.allocator());
+    let mut writer = Writer::new(mem::replace(out, empty));
     let done = writer.key(name);
-    *text = writer.into_inner();
+    *out = writer.into_inner();
     done
 }
