@@ -1,4 +1,4 @@
-ghost use Rattle.std.specs.Prelude.{◌≡◌, ◌++◌, IfOk, OnOk, IsTrue, length};
+ghost use Rattle.std.specs.Prelude.{◌≡◌, ◌++◌, IfOk, OnOk, OnErr, IsTrue, length};
 ghost use Rattle.std.specs.Int.{w64, cast_signed, from_le_bytes};
 ghost use Rattle.std.specs.Str.{is_utf8};
 ghost use Rattle.doc_values.specs.Value.{kind_of, IsStorable};
@@ -11,6 +11,7 @@ use std::alloc::{AllocError, Global};
 pub fn push_value(bytes: &mut Vec<u8>, value: &Value) -> Result<(), AllocError>
     requires { IsStorable value.now }
     ensures ok { OnOk result (bytes.new.items ≡ bytes.old.items ++ bytes_of value.now) }
+    ensures memory { OnErr result (bytes.new.items ≡ bytes.old.items) }
 {
     match value {
         Value::Bool(b) => bytes.push(u8::from(*b))?,
