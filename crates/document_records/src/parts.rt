@@ -1,4 +1,4 @@
-ghost use Rattle.std.specs.Prelude.{◌≡◌, ◌+◌, ◌≤◌, [], ◌∷◌, ◌++◌, List, length, IfOk, OnOk};
+ghost use Rattle.std.specs.Prelude.{◌≡◌, ◌+◌, ◌≤◌, [], ◌∷◌, ◌++◌, List, length, IfOk, OnOk, OnErr};
 ghost use Rattle.doc_values.specs.Value.{IsStorable};
 ghost use Rattle.reservoir_record.specs.Spelling.{AreFields, ArePartsOf};
 ghost use Rattle.reservoir_record.specs.declared.fields.Field.{Field};
@@ -47,12 +47,19 @@ impl Parts {
         requires storable { IsStorable value.now }
         requires room { length self.old.values.items + length (bytes_of value.now) ≤ most_weight }
         ensures ok { OnOk result ((fields : List Field) → AreIn fields self.old → AreIn (fields ++ record { id = id; bytes = bytes_of value.now } ∷ []) self.new) }
+        ensures memory { OnErr result ((self.new.ids.items ≡ self.old.ids.items) × (self.new.ends.items ≡ self.old.ends.items) × (self.new.values.items ≡ self.old.values.items)) }
     {
         parts_of_one_more();
-        self.ids.push(id)?;
+        let before = self.values.len();
         push_value(&mut self.values, value)?;
-        self.ends.push(self.values.len() as u32)?;
-        Ok(())
+        let end = self.values.len() as u32;
+        match push_number(&mut self.ids, &mut self.ends, id, end) {
+            Ok(()) => Ok(()),
+            Err(fault) => {
+                self.values.truncate(before);
+                Err(fault)
+            }
+        }
     }
 
     /// The record of the fields.
@@ -62,4 +69,17 @@ impl Parts {
     {
         Record::from_parts(alloc, &self.ids, &self.ends, &self.values)
     }
+}
+
+// Puts a number and an end behind the others, or neither.
+fn push_number(ids: &mut Vec<u32>, ends: &mut Vec<u32>, id: u32, end: u32) -> Result<(), AllocError>
+    ensures ok { OnOk result ((ids.new.items ≡ ids.old.items ++ id ∷ []) × (ends.new.items ≡ ends.old.items ++ end ∷ [])) }
+    ensures memory { OnErr result ((ids.new.items ≡ ids.old.items) × (ends.new.items ≡ ends.old.items)) }
+{
+    ids.push(id)?;
+    if let Err(fault) = ends.push(end) {
+        ids.pop();
+        return Err(fault.into());
+    }
+    Ok(())
 }
