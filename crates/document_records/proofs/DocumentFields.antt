@@ -8,8 +8,9 @@ use Rattle.std.specs.Cmp.Lexicographic.{slice_cmp}
 use Rattle.std.proofs.lemmas.Bool.Decides.{nat_tests}
 use Rattle.std.proofs.lemmas.Cmp.{nat_list_cmp_total, tied_itself}
 use Rattle.std.proofs.lemmas.List.Elements.{All-nil, All-cons, All-weaker, recursion_from_All}
-use Rattle.std.proofs.lemmas.List.Sorted.{All-permutation, Contains-permutation, sum_by-IsPermutation}
+use Rattle.std.proofs.lemmas.List.Sorted.{IsPermutation-map, All-permutation, Contains-permutation, sum_by-IsPermutation}
 use Rattle.std.proofs.lemmas.List.Sums.{sum_by-cons}
+use Rattle.std.proofs.lemmas.Map.Keys.{IsDistinct-IsPermutation}
 use Rattle.std.proofs.lemmas.Map.Text.{is_eq-slice_cmp}
 use Rattle.std.proofs.lemmas.Slice.Eq.{bytes_eq-Decides}
 use Rattle.std.proofs.lemmas.Option.{same_Some, none-some}
@@ -155,6 +156,9 @@ has_all pairs name v (f ∷ fs) (x ∷ xs) h e = has_by pairs name v f fs x xs (
 value_held : (pairs : Pairs) (d : Fields) (x : Field) (w : Holds pairs d x) → value_in (kind_of w.0.1) x.bytes ≡ w.0.1
 value_held pairs d x w = ap (value_in (kind_of w.0.1)) w.1.1 ∙ reads_back w.0.1 w.3
 
+flips : (x y : ℕ) → eqb x y ≡ eqb y x
+flips x y = grind (arith, nat_tests)
+
 module _ (puts : PutsAlone) (kept : StaysDocument) (pairs : Pairs) where
   -- the value that a held field puts
   stored_is : (d rest : Fields) (x : Field) (w : Holds pairs d x) (name : List ℕ) → name ≡ w.0.0 → value_at name (with_stored pairs x rest) ≡ Some w.0.1
@@ -232,6 +236,10 @@ module _ (puts : PutsAlone) (kept : StaysDocument) (pairs : Pairs) where
 
     pub is_kept : IsKept pairs ys
     is_kept = subst (λ (e : Fields). All (IsHeld pairs e) ys) (sym stands_again) (All-weaker (Holds pairs d) (IsHeld pairs d) held_by ys all_held)
+
+    -- each number stands once
+    pub once : IsDistinct eqb (numbers ys)
+    once = IsDistinct-IsPermutation eqb flips (numbers xs) (numbers ys) (IsPermutation-map (λ (x : Field). x.id) xs ys moved) (distinct removes pairs d xs s h)
 
     pub fits : length (values ys) ≡ weight_of d
     fits = length-values ys ∙ sum_by-IsPermutation size xs ys moved ∙ weights pairs d xs h

@@ -1,6 +1,6 @@
 -- What the laws of this crate say: a record of the fields of a document stands for it, and has the same values.
-use Rattle.std.specs.Prelude.{◌≡◌, ℕ, List, Some, length}
-use Rattle.std.specs.List.{AllZip}
+use Rattle.std.specs.Prelude.{◌≡◌, ℕ, eqb, List, Some, length}
+use Rattle.std.specs.List.{AllZip, IsDistinct}
 use Rattle.std.specs.List.Sorted.{IsPermutation}
 use Rattle.doc_values.specs.Doc.{Fields, IsDocument, value_at}
 use Rattle.doc_values.specs.Weight.{weight_of}
@@ -8,7 +8,7 @@ use Rattle.doc_values.specs.Value.{kind_of}
 use Rattle.doc_values.specs.declared.kind.Kind.{Kind}
 use Rattle.doc_values.specs.declared.value.Value.{Value}
 use Rattle.reservoir_record.specs.declared.fields.Field.{Field}
-use Rattle.reservoir_record.specs.Spelling.{values}
+use Rattle.reservoir_record.specs.Spelling.{numbers, values}
 use Rattle.attr_catalog.specs.Attribute.{Attribute}
 use Rattle.attr_catalog.specs.Catalog.{id_of, kinds_of, IsOnce}
 use Rattle.document_records.specs.ReadBack.{value_of_kind, value_under, CanBeRead}
@@ -26,10 +26,11 @@ pub record AreOfDocument (attributes : List Attribute) (fields : List Field) (na
 abbrev pub RecordsAreDocuments : Type 0
 RecordsAreDocuments = (attributes : List Attribute) (fields : List Field) (name : List ℕ) → IsOnce attributes → IsKept (pairs_of attributes) fields → AreOfDocument attributes fields name
 
--- The fields of a record keep a document: they stand for it, each is held, and their values weigh what it weighs.
+-- The fields of a record keep a document: they stand for it, each is held, each number stands once, and their values weigh what it weighs.
 pub record KeepDocument (pairs : Pairs) (document : Fields) (fields : List Field) : Type 0 where
   pub stands : document_stored pairs fields ≡ document
   pub kept : IsKept pairs fields
+  pub once : IsDistinct eqb (numbers fields)
   pub weighs : length (values fields) ≡ weight_of document
 
 -- The fields that are made of those of a document, one for each, keep it in whichever order.

@@ -1,4 +1,4 @@
-use Rattle.document_records.proofs.DocumentFields.{stands_again, is_kept, fits}
+use Rattle.document_records.proofs.DocumentFields.{stands_again, is_kept, once, fits}
 use Rattle.document_records.proofs.laws.records_keep_documents.Goals as goal
 
 pub returns : goal.returns
@@ -9,6 +9,7 @@ returns c =
           record {
             stands = stands_again l.puts l.kept pairs l.removes l.same document ordered made fields zipped moved;
             kept = is_kept l.puts l.kept pairs l.removes l.same document ordered made fields zipped moved;
+            once = once l.puts l.kept pairs l.removes l.same document ordered made fields zipped moved;
             weighs = fits l.puts l.kept pairs l.removes l.same document ordered made fields zipped moved;
           };
     }
