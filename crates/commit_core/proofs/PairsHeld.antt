@@ -31,7 +31,7 @@ contains_last x (y ∷ xs) = contains_later y x (xs ++ x ∷ []) (contains_last 
 
 -- ---- one pair more
 
-same_kinds : (a b : Kind) → same_kind a b ≡ true → a ≡ b
+pub same_kinds : (a b : Kind) → same_kind a b ≡ true → a ≡ b
 same_kinds kind.Bool kind.Bool e = refl
 same_kinds kind.Int kind.Int e = refl
 same_kinds kind.Text kind.Text e = refl

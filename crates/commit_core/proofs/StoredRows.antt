@@ -1,13 +1,12 @@
 -- The rows that are read of records hold what their documents give.
-use Rattle.std.proofs.Common.{◌≡◌, ℕ, ◌+◌, ◌==◌, Bool, true, false, List, [], ◌∷◌, map, Option, Some, None, option_map, option_and_then, refl, sym, ap, subst, ◌∙◌, arith}
+use Rattle.std.proofs.Common.{◌≡◌, ℕ, ◌+◌, ◌==◌, Bool, true, false, List, [], ◌∷◌, map, Option, Some, None, option_and_then, refl, sym, ap, subst, ◌∙◌, arith}
 use Rattle.std.specs.Prelude.{All, cond}
 use Rattle.std.specs.List.{AllByRecursion as EachIs}
 use Rattle.std.proofs.lemmas.Bool.{cond-true}
 use Rattle.std.proofs.lemmas.Bool.Decides.{nat_tests}
 use Rattle.std.proofs.lemmas.List.Elements.{All-weaker, All-head, All-tail, All-nil, All-cons}
-use Rattle.std.proofs.lemmas.Option.{same_Some, none-some}
+use Rattle.std.proofs.lemmas.Option.{none-some}
 use Rattle.doc_values.specs.Doc.{Fields, value_at, IsDocument}
-use Rattle.doc_values.specs.Laws.{PutsAlone}
 use Rattle.doc_values.specs.Order.{rank}
 use Rattle.doc_values.specs.Value.{kind_of}
 use Rattle.doc_values.specs.declared.attr_id.AttrId.{AttrId}
@@ -16,27 +15,18 @@ use Rattle.doc_values.specs.declared.kind.Kind.{Kind}
 use Rattle.doc_values.specs.declared.kind.Kind.TheVariants as kind
 use Rattle.doc_values.specs.declared.value.Value.{Value}
 use Rattle.reservoir_record.specs.declared.fields.Field.{Field}
-use Rattle.reservoir_record.specs.Finding.{value_of}
 use Rattle.attr_catalog.specs.Attribute.{Attribute}
 use Rattle.attr_catalog.specs.Catalog.{id_of, id_at, kinds_of, IsOnce}
 use Rattle.sql_eval.specs.Meaning.{given, if_wanted}
 use Rattle.query_meaning.specs.Plans.{cells_under}
 use Rattle.commit_core.specs.State.{Row}
+use Rattle.document_records.specs.Laws.{AreOfDocument, RecordsAreDocuments}
 use Rattle.document_records.specs.ReadBack.{value_of_kind, CanBeRead}
 use Rattle.document_records.specs.StoredDocument.{Pairs, pairs_of, document_stored, IsKept}
 use Rattle.commit_core.specs.StoredRow.{path_of, IsPathIn, cell_at_kind, cell_along, row_along}
-use Rattle.document_records.specs.StoredValue.{value_in}
 use Rattle.commit_core.specs.Write.{rows_from}
 use Rattle.commit_core.specs.declared.column_path.ColumnPath.{ColumnPath}
-use Rattle.document_records.proofs.StoredFields.{kind_in, sound, there, same_rank, found_under, can_be_read}
-
-kind_found : (of : Kind) (o : Option (List ℕ)) (v : Value) → option_map (value_in of) o ≡ Some v → kind_of v ≡ of
-kind_found of None v h = absurd (none-some v h)
-kind_found of (Some bytes) v h = ap kind_of (sym (same_Some (value_in of bytes) v h)) ∙ kind_in of bytes
-
-kind_of_one : (of : Kind) (o : Option AttrId) (fs : List Field) (v : Value) → value_of_kind of o fs ≡ Some v → kind_of v ≡ of
-kind_of_one of None fs v h = absurd (none-some v h)
-kind_of_one of (Some id) fs v h = kind_found of (value_of id.0 fs) v h
+use Rattle.commit_core.proofs.PairsHeld.{same_kinds}
 
 -- the number of a name is that of the kind
 id_at-is : (of : Kind) (name : List ℕ) (attributes : List Attribute) → id_at of (kinds_of name attributes) ≡ id_of name of attributes
@@ -46,9 +36,6 @@ id_at-is kind.Text name attributes = refl
 id_at-is kind.Array name attributes = refl
 id_at-is kind.Object name attributes = refl
 
-same_number : (a b : ℕ) → a == b ≡ true → a ≡ b
-same_number a b e = grind (arith, nat_tests)
-
 itself : (n : ℕ) → n == n ≡ true
 itself n = grind (arith, nat_tests)
 
@@ -56,9 +43,12 @@ any_kind : (o : Option Value) → option_and_then (if_wanted None) o ≡ o
 any_kind None = refl
 any_kind (Some v) = refl
 
-module _ (puts : PutsAlone) (attributes : List Attribute) (once : IsOnce attributes) (fs : List Field) (kept : IsKept (pairs_of attributes) fs) (name : List ℕ) where
+module _ (law : RecordsAreDocuments) (attributes : List Attribute) (once : IsOnce attributes) (fs : List Field) (kept : IsKept (pairs_of attributes) fs) (name : List ℕ) where
   abbrev document : Fields
   document = document_stored (pairs_of attributes) fs
+
+  of_document : AreOfDocument attributes fs name
+  of_document = law attributes fs name once kept
 
   abbrev one : Kind → Option Value
   one of = value_of_kind of (id_of name of attributes) fs
@@ -67,12 +57,12 @@ module _ (puts : PutsAlone) (attributes : List Attribute) (once : IsOnce attribu
   other_by : (of : Kind) (v : Value) (t : Bool) → rank of == rank (kind_of v) ≡ t → one of ≡ None → one (kind_of v) ≡ Some v → cond t (Some v) None ≡ None
   other_by of v false e none some = refl
   other_by of v true e none some =
-      let same : of ≡ kind_of v = same_rank of (kind_of v) (same_number (rank of) (rank (kind_of v)) e) in
+      let same : of ≡ kind_of v = same_kinds of (kind_of v) e in
       absurd (none-some v (sym none ∙ ap one same ∙ some))
 
   none_by : (of : Kind) (o : Option Value) → value_at name document ≡ o → one of ≡ None → option_and_then (if_wanted (Some of)) o ≡ None
   none_by of None at none = refl
-  none_by of (Some v) at none = other_by of v (rank of == rank (kind_of v)) refl none (there puts attributes once fs kept name v at)
+  none_by of (Some v) at none = other_by of v (rank of == rank (kind_of v)) refl none (of_document.each v at)
 
   some_by : (of : Kind) (v : Value) → kind_of v ≡ of → if_wanted (Some of) v ≡ Some v
   some_by of v e = cond-true (rank of == rank (kind_of v)) (Some v) None (ap (λ (k : Kind). rank of == rank k) e ∙ itself (rank of))
@@ -80,21 +70,21 @@ module _ (puts : PutsAlone) (attributes : List Attribute) (once : IsOnce attribu
   one_by : (of : Kind) (o : Option Value) → one of ≡ o → o ≡ given name (Some of) document
   one_by of None e = sym (none_by of (value_at name document) refl e)
   one_by of (Some v) e =
-      let at : value_at name document ≡ Some v = sound puts attributes once fs kept name of v e in
-      sym (ap (option_and_then (if_wanted (Some of))) at ∙ some_by of v (kind_of_one of (id_of name of attributes) fs v e))
+      let at : value_at name document ≡ Some v = of_document.only of v e in
+      sym (ap (option_and_then (if_wanted (Some of))) at ∙ some_by of v (of_document.alike of v e))
 
   pub cell_found : (want : Option Kind) → cell_at_kind (kinds_of name attributes) want fs ≡ given name want document
-  cell_found None = found_under puts attributes once fs kept name ∙ sym (any_kind (value_at name document))
+  cell_found None = of_document.found ∙ sym (any_kind (value_at name document))
   cell_found (Some of) = ap (λ (o : Option AttrId). value_of_kind of o fs) (id_at-is of name attributes) ∙ one_by of (one of) refl
 
 -- ---- rows
 
-module _ (puts : PutsAlone) (attributes : List Attribute) (once : IsOnce attributes) where
+module _ (law : RecordsAreDocuments) (attributes : List Attribute) (once : IsOnce attributes) where
   pub cells_found : (fs : List Field) → IsKept (pairs_of attributes) fs → (columns : List ColRef)
       → map (cell_along fs) (map (path_of attributes) columns) ≡ map (λ (c : ColRef). given c.name c.want (document_stored (pairs_of attributes) fs)) columns
   cells_found fs kept [] = refl
   cells_found fs kept (c ∷ cs) =
-      let first = cell_found puts attributes once fs kept c.name c.want in
+      let first = cell_found law attributes once fs kept c.name c.want in
       let rest = cells_found fs kept cs in
       λ i. first i ∷ rest i
 
@@ -117,7 +107,7 @@ module _ (puts : PutsAlone) (attributes : List Attribute) (once : IsOnce attribu
   -- what stands along a path can be read
   pub along_readable : (fs : List Field) → IsKept (pairs_of attributes) fs → (paths : List ColumnPath) → All (IsPathIn attributes) paths → All (λ (p : ColumnPath). CanBeRead p.kinds fs) paths
   along_readable fs kept paths named =
-      All-weaker (IsPathIn attributes) (λ (p : ColumnPath). CanBeRead p.kinds fs) (λ (p : ColumnPath) h. subst (λ k. CanBeRead k fs) (sym h.kinds) (can_be_read puts attributes once fs kept h.name)) paths named
+      All-weaker (IsPathIn attributes) (λ (p : ColumnPath). CanBeRead p.kinds fs) (λ (p : ColumnPath) h. subst (λ k. CanBeRead k fs) (sym h.kinds) (law attributes fs h.name once kept).readable) paths named
 
 -- documents that stand in rows
 pub rows_ordered : (pairs : Pairs) (records : List (List Field)) (n : ℕ) → EachIs (λ (row : Row). IsDocument row.document) (rows_from n (map (document_stored pairs) records)) → EachIs (λ fields. IsDocument (document_stored pairs fields)) records

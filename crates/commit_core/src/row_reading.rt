@@ -7,8 +7,8 @@ ghost use Rattle.commit_core.specs.StoredRow.{cell_along, path_of, row_along, Is
 
 use crate::column_path::ColumnPath;
 use attr_catalog::Catalog;
-use doc_values::{ColRef, Value, documents_are_maps};
-use document_records::{Record, document, value_of_kind, value_under};
+use doc_values::{ColRef, Value};
+use document_records::{Record, document, records_are_their_documents, value_of_kind, value_under};
 use sql_eval::Row;
 use std::alloc::{AllocError, Global};
 
@@ -64,7 +64,7 @@ fn row(
     requires ordered { IsDocument (document_stored (pairs_of catalog.now) stored.now) }
     ensures ok { IfOk result (λ row. row ≡ row_along catalog.now paths.now whole stored.now) }
 {
-    documents_are_maps();
+    records_are_their_documents();
     let cells = cells(alloc, paths, stored)?;
     let document = if whole {
         Some(document(alloc, catalog, stored)?)

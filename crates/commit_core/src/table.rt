@@ -6,8 +6,8 @@ use crate::load_refusal::LoadRefusal;
 use crate::loading::load;
 use crate::row_reading::{paths, rows_along};
 use attr_catalog::Catalog;
-use doc_values::{ColRef, Utf, documents_are_maps};
-use document_records::Record;
+use doc_values::{ColRef, Utf};
+use document_records::{Record, records_are_their_documents};
 use sql_eval::Row;
 use std::alloc::{AllocError, Global};
 use std::marker::Model;
@@ -73,7 +73,7 @@ impl Table {
         requires { All (λ row. IsDocument row.document) self.now.rows }
         ensures ok { IfOk result (λ rows. rows.items ≡ map (cells_under columns.now whole) (map (λ row. row.document) self.now.rows)) }
     {
-        documents_are_maps();
+        records_are_their_documents();
         self.catalog.keeps_the_rules();
         let alloc = *self.records.allocator();
         let paths = paths(alloc, &self.catalog, columns)?;
