@@ -5,6 +5,7 @@ pub mod Later
 pub mod States
 mod Pairs
 mod Entries
+mod HeldNumbers
 mod RecordFields
 mod Appended
 mod Counts

@@ -9,11 +9,9 @@ use Rattle.std.proofs.lemmas.Bool.Decides.{nat_tests}
 use Rattle.std.proofs.lemmas.List.Elements.{All-nil, All-cons, recursion_from_All}
 use Rattle.std.proofs.lemmas.List.Sorted.{IsPermutation-map, All-permutation}
 use Rattle.std.proofs.lemmas.List.{length-map}
-use Rattle.std.proofs.lemmas.Map.Keys.{IsDistinct-head, IsDistinct-tail, IsDistinct-IsPermutation}
-use Rattle.std.proofs.lemmas.Option.{slice_get_within, same_Some}
+use Rattle.std.proofs.lemmas.Map.Keys.{IsDistinct-head, IsDistinct-tail}
+use Rattle.std.proofs.lemmas.Option.{same_Some}
 use Rattle.doc_values.specs.Doc.{Fields, IsDocument}
-use Rattle.doc_values.specs.Laws.{PutsAlone, RemovesAlone, AreSameByNames, StaysDocument}
-use Rattle.doc_values.specs.Value.{kind_of}
 use Rattle.doc_values.specs.Weight.{weight_of}
 use Rattle.doc_values.specs.declared.kind.Kind.{Kind}
 use Rattle.doc_values.specs.declared.value.Value.{Value}
@@ -21,9 +19,10 @@ use Rattle.attr_catalog.specs.Attribute.{Attribute}
 use Rattle.reservoir_record.specs.declared.fields.Field.{Field}
 use Rattle.reservoir_record.specs.Spelling.{Ascends, AreFields, numbers, values}
 use Rattle.document_records.specs.StoredValue.{bytes_of}
-use Rattle.document_records.specs.StoredDocument.{Pairs, pairs_of, document_stored, IsKept, IsFieldOf}
+use Rattle.document_records.specs.Laws.{KeepDocument, DocumentsAreKept}
+use Rattle.document_records.specs.StoredDocument.{Pairs, pairs_of, document_stored, IsHeld, IsKept, IsFieldOf}
 use Rattle.commit_core.specs.Loading.{HaveEntries, field_of, fields_of}
-use Rattle.document_records.proofs.DocumentFields.{Holds, distinct, held_all, stands_again, is_kept, fits}
+use Rattle.commit_core.proofs.HeldNumbers.{held_below}
 
 -- ---- each field of the document has its field in the record
 
@@ -71,44 +70,33 @@ places_within pairs place m (f ∷ fs) [] l h = absurd h
 places_within pairs place m (f ∷ fs) (e ∷ es) l h =
     All-cons (λ (x : ℕ × ℕ). x.1 < m) e es (omega (arith, h.1)) (places_within pairs (place + 1) m fs es (omega arith) h.3)
 
-small_ids : (pairs : Pairs) (d : Fields) → length pairs ≤ 65536 → (xs : List Field) → AllByRecursion (Holds pairs d) xs → AllByRecursion (λ x. x.id < 65536) xs
+small_ids : (pairs : Pairs) (d : Fields) → length pairs ≤ 65536 → (xs : List Field) → AllByRecursion (IsHeld pairs d) xs → AllByRecursion (λ x. x.id < 65536) xs
 small_ids pairs d few [] h = tt
-small_ids pairs d few (x ∷ xs) h =
-    let below : x.id < length pairs = slice_get_within pairs x.id (h.0.0.0, kind_of h.0.0.1) h.0.1.0 in
-    (omega arith, small_ids pairs d few xs h.1)
+small_ids pairs d few (x ∷ xs) h = let below = held_below pairs d x h.0 in (omega arith, small_ids pairs d few xs h.1)
 
-flips : (x y : ℕ) → eqb x y ≡ eqb y x
-flips x y = grind (arith, nat_tests)
-
-module _ (puts : PutsAlone) (removes : RemovesAlone) (same : AreSameByNames) (kept : StaysDocument) (pairs : Pairs) (few : length pairs ≤ 65536) (d : Fields) (s : IsDocument d) (light : weight_of d ≤ 16777216)
+module _ (law : DocumentsAreKept) (pairs : Pairs) (few : length pairs ≤ 65536) (d : Fields) (s : IsDocument d) (light : weight_of d ≤ 16777216)
     (es ss : List (ℕ × ℕ)) (h : HaveEntries pairs 0 d es) (moved : IsPermutation es ss) where
   abbrev made : List Field
   made = fields_of d ss
 
-  zipped : AllZip (IsFieldOf pairs) d (fields_of d es)
-  zipped = zip_all pairs d es h
-
-  fields_moved : IsPermutation (fields_of d es) (fields_of d ss)
-  fields_moved = IsPermutation-map (field_of d) es ss moved
+  made_keep : KeepDocument pairs d made
+  made_keep = law pairs d (fields_of d es) made s (zip_all pairs d es h) (IsPermutation-map (field_of d) es ss moved)
 
   pub made_stands : document_stored pairs made ≡ d
-  made_stands = stands_again puts kept pairs removes same d s (fields_of d es) made zipped fields_moved
+  made_stands = made_keep.stands
 
   pub made_kept : IsKept pairs made
-  made_kept = is_kept puts kept pairs removes same d s (fields_of d es) made zipped fields_moved
+  made_kept = made_keep.kept
 
   pub made_fit : length (values made) ≤ 16777216
-  made_fit = omega (arith, fits puts kept pairs removes same d s (fields_of d es) made zipped fields_moved)
+  made_fit = omega (arith, made_keep.weighs)
 
   pub made_within : All (λ (e : ℕ × ℕ). e.1 < length d) ss
   made_within = All-permutation (λ (e : ℕ × ℕ). e.1 < length d) es ss moved (places_within pairs 0 (length d) d es (omega arith) h)
 
   pub made_fields : ((k : ℕ) (z : ℕ × ℕ) → k + 1 < length ss → (get_or ss k z).0 ≤ (get_or ss (k + 1) z).0) → AreFields made
   made_fields up = record {
-    ascend = rises d ss 0 up
-        (IsDistinct-IsPermutation eqb flips (numbers (fields_of d es)) (numbers made) (IsPermutation-map (λ (x : Field). x.id) (fields_of d es) made fields_moved) (distinct removes pairs d (fields_of d es) s zipped))
-        (small_ids pairs d few made (recursion_from_All (Holds pairs d) made (All-permutation (Holds pairs d) (fields_of d es) made fields_moved (held_all removes pairs d (fields_of d es) s zipped))))
-        (λ e at. omega arith);
+    ascend = rises d ss 0 up made_keep.once (small_ids pairs (document_stored pairs made) few made (recursion_from_All (IsHeld pairs (document_stored pairs made)) made made_kept)) (λ e at. omega arith);
     fit = made_fit;
   }
 

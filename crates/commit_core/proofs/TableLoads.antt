@@ -1,24 +1,23 @@
 -- A table that documents were loaded into.
-use Rattle.std.proofs.Common.{◌≡◌, ◌⊎◌, inl, inr, ℕ, zero, suc, ◌+◌, ◌-◌, ◌<◌, ◌≤◌, ◌||◌, nat_lt, Bool, true, false, List, [], ◌∷◌, ◌++◌, length, map, fold, take, drop, get_or, Option, Some, None, slice_get, refl, sym, ap, subst, ◌∙◌, arith, length-append}
-use Rattle.std.specs.Prelude.{All, MatchOption}
+use Rattle.std.proofs.Common.{◌≡◌, ◌⊎◌, inl, inr, ℕ, zero, suc, ◌+◌, ◌-◌, ◌<◌, ◌≤◌, ◌||◌, nat_lt, Bool, true, false, List, [], ◌∷◌, ◌++◌, length, map, fold, take, drop, get_or, Some, None, slice_get, refl, sym, ap, subst, ◌∙◌, arith, length-append}
+use Rattle.std.specs.Prelude.{All}
 use Rattle.std.specs.List.{filter}
 use Rattle.std.proofs.lemmas.Bool.Decides.{nat_tests}
 use Rattle.std.proofs.lemmas.List.{length-map}
-use Rattle.std.proofs.lemmas.List.Elements.{filter-append, All-head, All-tail, All-contains}
-use Rattle.std.proofs.lemmas.Option.{same_Some, slice_get_within, slice_get_cases}
+use Rattle.std.proofs.lemmas.List.Elements.{filter-append, All-head, All-tail}
+use Rattle.std.proofs.lemmas.Option.{same_Some, slice_get_cases}
 use Rattle.doc_values.specs.Doc.{Fields}
 use Rattle.doc_values.specs.declared.kind.Kind.{Kind}
 use Rattle.reservoir_record.specs.declared.fields.Field.{Field}
-use Rattle.reservoir_record.specs.Finding.{value_of}
 use Rattle.attr_catalog.specs.Attribute.{Attribute}
 use Rattle.attr_catalog.specs.Catalog.{most_attributes}
 use Rattle.commit_core.specs.State.{Row}
 use Rattle.attr_catalog.specs.Catalog.{most_versions}
 use Rattle.commit_core.specs.Write.{rows_from, with_fields, with_documents}
-use Rattle.document_records.specs.StoredDocument.{Pairs, pairs_of, document_stored, IsStored, IsHeld, IsKept}
+use Rattle.document_records.specs.StoredDocument.{Pairs, pairs_of, document_stored, IsKept}
 use Rattle.commit_core.specs.StoredTable.{has_number, holders, IsInRecords, IsTable, collection_of}
 use Rattle.commit_core.specs.Loading.{IsFresh, HasGrown, HasFront, HasDocuments, HasCounted, HasLoaded, documents_stored, is_too_much}
-use Rattle.document_records.proofs.StoredFields.{among}
+use Rattle.commit_core.proofs.HeldNumbers.{lacks}
 use Rattle.commit_core.proofs.Pairs.{get_taken}
 use Rattle.commit_core.proofs.Entries.{take_all_of}
 use Rattle.commit_core.proofs.Appended.{all_at}
@@ -26,23 +25,10 @@ use Rattle.commit_core.proofs.Counts.{mate, holders_few}
 
 -- ---- no record of before has a new number
 
-held_below : (pairs : Pairs) (id : ℕ) (P : List ℕ × Kind → Type 0) (o : Option (List ℕ × Kind)) → slice_get pairs id ≡ o → MatchOption o ⊥ P → id < length pairs
-held_below pairs id P None e h = absurd h
-held_below pairs id P (Some pair) e h = slice_get_within pairs id pair e
-
-lacks_by : (pairs : Pairs) (id : ℕ) (fs : List Field) (o : Option (List ℕ)) → value_of id fs ≡ o → IsKept pairs fs → length pairs ≤ id → has_number id fs ≡ false
-lacks_by pairs id fs None e kept le = rw e refl
-lacks_by pairs id fs (Some bytes) e kept le =
-    let x = among id bytes fs e in
-    let held : IsHeld pairs (document_stored pairs fs) x.field = All-contains (IsHeld pairs (document_stored pairs fs)) fs x.field kept x.there in
-    let below : x.field.id < length pairs = held_below pairs x.field.id (IsStored (document_stored pairs fs) x.field.bytes) (slice_get pairs x.field.id) refl held in
-    absurd (omega (arith, x.numbered))
-
 none_holds : (pairs : Pairs) (id : ℕ) (records : List (List Field)) → All (IsKept pairs) records → length pairs ≤ id → holders id records ≡ 0
 none_holds pairs id [] kept le = refl
 none_holds pairs id (fs ∷ more) kept le =
-    let lacks : has_number id fs ≡ false = lacks_by pairs id fs (value_of id fs) refl (All-head (IsKept pairs) fs more kept) le in
-    rw lacks (none_holds pairs id more (All-tail (IsKept pairs) fs more kept) le)
+    rw (lacks pairs id fs (All-head (IsKept pairs) fs more kept) le) (none_holds pairs id more (All-tail (IsKept pairs) fs more kept) le)
 
 -- ---- lists
 

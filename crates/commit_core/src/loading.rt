@@ -15,7 +15,7 @@ use crate::documents::Documents;
 use crate::load_refusal::LoadRefusal;
 use attr_catalog::{AddFault, Catalog};
 use doc_values::{Doc, Kind, documents_are_maps};
-use document_records::{Parts, Record, kind_stored};
+use document_records::{Parts, Record, kind_stored, records_keep_documents};
 use std::alloc::{AllocError, Global};
 
 /// How many versions a collection may have.
@@ -102,7 +102,7 @@ fn append(
     ensures ok { OnOk result (HasDocuments (document.now ∷ []) catalog.old catalog.new records.old.items records.new.items) }
     ensures full { result ≡ Err LoadRefusal.Full → most_attributes < length (with_fields (pairs_of catalog.old) document.now) }
 {
-    documents_are_maps();
+    records_keep_documents();
     number_fields(catalog, document, entries)?;
     catalog.keeps_the_rules();
     entries.sort_unstable();

@@ -95,7 +95,7 @@ module _ (removes : RemovesAlone) where
       let a = absent p.0 f fs none in
       (different pairs id x.id p (f.0, kind_of f.1) at h.0.0 a.0, later pairs id p at fs xs h.1 a.1)
 
-  pub distinct : (pairs : Pairs) (fs : Fields) (xs : List Field) → IsDocument fs → AllZip (IsFieldOf pairs) fs xs → IsDistinct eqb (numbers xs)
+  distinct : (pairs : Pairs) (fs : Fields) (xs : List Field) → IsDocument fs → AllZip (IsFieldOf pairs) fs xs → IsDistinct eqb (numbers xs)
   unfolding IsDistinct
   distinct pairs [] [] s h = tt
   distinct pairs [] (x ∷ xs) s h = absurd h
@@ -105,7 +105,7 @@ module _ (removes : RemovesAlone) where
 -- ---- the document that the fields stand for
 
 -- A document holds the field, whose value it may hold.
-abbrev pub Holds : Pairs → Fields → Field → Type 0
+abbrev Holds : Pairs → Fields → Field → Type 0
 Holds pairs d x = (f : List ℕ × Value) × IsFieldOf pairs f x × (value_at f.0 d ≡ Some f.1) × IsStorable f.1
 
 same_by_cmp : (a b : List ℕ) → is_eq (slice_cmp nat_cmp a b) ≡ true → a ≡ b
@@ -123,7 +123,7 @@ module _ (removes : RemovesAlone) where
   behind : (f : List ℕ × Value) (fs : Fields) → IsDocument (f ∷ fs) → (name : List ℕ) (v : Value) → value_at name fs ≡ Some v → value_at name (f ∷ fs) ≡ Some v
   behind f fs s name v e = behind_by f fs s name v (same_or_not name f.0) e
 
-  pub held_all : (pairs : Pairs) (fs : Fields) (xs : List Field) → IsDocument fs → AllZip (IsFieldOf pairs) fs xs → All (Holds pairs fs) xs
+  held_all : (pairs : Pairs) (fs : Fields) (xs : List Field) → IsDocument fs → AllZip (IsFieldOf pairs) fs xs → All (Holds pairs fs) xs
   held_all pairs [] [] s h = All-nil (Holds pairs [])
   held_all pairs [] (x ∷ xs) s h = absurd h
   held_all pairs (f ∷ fs) [] s h = absurd h

@@ -1,4 +1,4 @@
-pub mod StoredValues
+mod StoredValues
 pub mod StoredFields
-pub mod DocumentFields
+mod DocumentFields
 mod WholeDocuments
