@@ -16,7 +16,7 @@ use Rattle.attr_catalog.specs.Catalog.{most_versions}
 use Rattle.document_records.specs.StoredDocument.{Pairs, pairs_of, document_stored, IsStored, IsHeld, IsKept}
 use Rattle.commit_core.specs.StoredTable.{has_number, holders}
 use Rattle.commit_core.specs.Loading.{with_count, HasCounted}
-use Rattle.document_records.proofs.StoredFields.{pair_at, attribute_at}
+use Rattle.document_records.proofs.CatalogNumbers.{pair_at, attribute_at}
 use Rattle.commit_core.proofs.Entries.{take_plus}
 use Rattle.commit_core.proofs.Appended.{all_at}
 

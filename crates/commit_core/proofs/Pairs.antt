@@ -20,7 +20,7 @@ use Rattle.doc_values.specs.Order.{same_kind}
 use Rattle.commit_core.specs.Write.{same_pair, with_pair, with_fields}
 use Rattle.document_records.specs.StoredDocument.{Pairs, pairs_of}
 use Rattle.commit_core.specs.Loading.{IsFresh, HasGrown}
-use Rattle.document_records.proofs.StoredFields.{stands_for, pair_at}
+use Rattle.document_records.proofs.CatalogNumbers.{stands_for, pair_at}
 
 -- ---- whether a pair stands
 

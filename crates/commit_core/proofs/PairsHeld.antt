@@ -13,7 +13,7 @@ use Rattle.std.specs.Str.{bytes_eq}
 use Rattle.commit_core.specs.State.{pair_of}
 use Rattle.doc_values.specs.Order.{same_kind}
 use Rattle.commit_core.specs.Write.{same_pair, with_pair, with_fields}
-use Rattle.document_records.proofs.StoredFields.{contains_head, contains_later, both}
+use Rattle.document_records.proofs.CatalogNumbers.{contains_head, contains_later, both}
 
 abbrev Pairs : Type 0
 Pairs = List (List ℕ × Kind)

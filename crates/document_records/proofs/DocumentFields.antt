@@ -25,8 +25,9 @@ use Rattle.reservoir_record.specs.declared.fields.Field.{Field}
 use Rattle.reservoir_record.specs.Spelling.{numbers, values}
 use Rattle.document_records.specs.StoredValue.{bytes_of, value_in, AreReadable}
 use Rattle.document_records.specs.StoredDocument.{Pairs, with_stored, document_stored, IsStored, IsHeld, IsKept, IsFieldOf}
+use Rattle.document_records.proofs.CatalogNumbers.{contains_head, contains_later}
 use Rattle.document_records.proofs.StoredValues.{reads_back}
-use Rattle.document_records.proofs.StoredFields.{same_or_not, contains_head, contains_later, stored_here, stored_other}
+use Rattle.document_records.proofs.StoredFields.{same_or_not, stored_here, stored_other}
 
 -- ---- weights
 

@@ -1,4 +1,5 @@
+pub mod CatalogNumbers
 mod StoredValues
-pub mod StoredFields
+mod StoredFields
 mod DocumentFields
 mod WholeDocuments
