@@ -16,7 +16,7 @@ use crate::load_refusal::LoadRefusal;
 use attr_catalog::{AddFault, Catalog};
 use doc_values::{Doc, Kind, documents_are_maps};
 use document_records::{Parts, Record, kind_stored, records_keep_documents};
-use std::alloc::{AllocError, Global};
+use std::alloc::AllocError;
 
 /// How many versions a collection may have.
 const MOST_VERSIONS: usize = 2_097_152;

@@ -1,4 +1,4 @@
-ghost use Rattle.std.specs.Prelude.{◌≡◌, ◌≤◌, [], List, length, true, false, Err, All, map, IfOk, OnOk, OnErr};
+ghost use Rattle.std.specs.Prelude.{◌≡◌, ◌≤◌, true, false, Err, All, map, IfOk, OnOk, OnErr};
 ghost use Rattle.doc_flatten.specs.Documents.{IsWithinLimits};
 
 use crate::documents::Documents;

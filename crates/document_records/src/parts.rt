@@ -1,6 +1,6 @@
 ghost use Rattle.std.specs.Prelude.{◌≡◌, ◌+◌, ◌≤◌, [], ◌∷◌, ◌++◌, List, length, IfOk, OnOk, OnErr};
 ghost use Rattle.doc_values.specs.Value.{IsStorable};
-ghost use Rattle.reservoir_record.specs.Spelling.{AreFields, ArePartsOf};
+ghost use Rattle.reservoir_record.specs.Spelling.{AreFields};
 ghost use Rattle.reservoir_record.specs.declared.fields.Field.{Field};
 ghost use Rattle.document_records.specs.StoredValue.{bytes_of};
 ghost use Rattle.document_records.specs.Limits.{most_weight};

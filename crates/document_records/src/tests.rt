@@ -7,7 +7,7 @@ use crate::{
     Parts, Record, document, kind_stored, push_value, read_value, value_of_kind, value_under,
 };
 use attr_catalog::{AddFault, Catalog};
-use doc_values::{AttrId, Kind, Utf, Value};
+use doc_values::{Kind, Utf, Value};
 use std::alloc::{AllocError, Global};
 use std::test::Fail;
 
