@@ -1,17 +1,19 @@
 #!/usr/bin/env python3
 """Times questions of the proved program over documents of 20 fields, beside two other ways to answer them.
 
-    bench/queries.py            50,000 documents, each question the best of three runs
+    bench/queries.py            50,000 documents, each question the best of five runs
     bench/queries.py --quick    5,000 documents, one run
 
-A question's time is that of a script with the question ten times, less that of the script without it, by ten. Beside it
-stand sqlite3's json_extract over the same texts in memory, where Python has it, and plain loops of Python over documents
-that were read before. The scripts are made when this runs, in a temporary folder, and are gone afterwards.
+Times are of the processor. A question's is that of a script with the question forty times, less that of the script without
+it, by forty. Beside it stand sqlite3's json_extract over the same texts in memory, where Python has it, and plain loops of
+Python over documents that were read before. The scripts are made when this runs, in a temporary folder, and are gone
+afterwards.
 """
 import argparse
 import json
 import os
 import random
+import resource
 import subprocess
 import sys
 import tempfile
@@ -19,7 +21,7 @@ import time
 
 TOP = os.path.dirname(os.path.dirname(os.path.abspath(__file__)))
 PROGRAM = os.path.join(TOP, "crates", "sinew_cli", "out", "sinew_cli")
-TIMES = 10
+TIMES = 40
 LEVELS = ["debug", "info", "warn", "error"]
 
 
@@ -82,24 +84,41 @@ def questions():
     ]
 
 
+def spent():
+    """Seconds of processor of the programs that have ended."""
+    usage = resource.getrusage(resource.RUSAGE_CHILDREN)
+    return usage.ru_utime + usage.ru_stime
+
+
 def run(path):
-    """Seconds of one run; the output is thrown away."""
+    """Seconds of processor of one run; the output is thrown away."""
     with open(path, "rb") as source:
-        start = time.perf_counter()
+        start = spent()
         status = subprocess.run([PROGRAM], stdin=source, stdout=subprocess.DEVNULL).returncode
-        seconds = time.perf_counter() - start
+        seconds = spent() - start
     if status != 0:
         sys.exit("the program ended with status %d" % status)
     return seconds
 
 
-def best(runs, work):
-    times = []
-    for _ in range(runs):
-        start = time.perf_counter()
-        work()
-        times.append(time.perf_counter() - start)
-    return min(times)
+def spent_by(work):
+    """Seconds of processor of this program's own work."""
+    start = time.process_time()
+    work()
+    return time.process_time() - start
+
+
+def least(times, others):
+    return [min(pair) for pair in zip(times, others)]
+
+
+def beside(ours, theirs):
+    """Another's time and the ratio to it, in two cells of the table; times below 1 ms have no ratio."""
+    if theirs == float("inf"):
+        return " | |"
+    if theirs < 0.001:
+        return " below 1 | |"
+    return " %.1f | %.2f |" % (theirs * 1000, ours / theirs)
 
 
 def write_script(path, texts, question):
@@ -116,7 +135,7 @@ def main():
     given = words.parse_args()
     if not os.path.exists(PROGRAM):
         sys.exit("no program: run ./sinew once first")
-    count, runs = (5000, 1) if given.quick else (50000, 3)
+    count, runs = (5000, 1) if given.quick else (50000, 5)
     rng = random.Random(1)
     documents = [document(rng, number) for number in range(count)]
     texts = [json.dumps(d, separators=(",", ":")) for d in documents]
@@ -130,24 +149,24 @@ def main():
     except Exception:
         base = None
         print("sqlite3 with JSON is missing here and is skipped")
+    loaded = [float("inf")]
+    rows = [[float("inf")] * 3 for _ in questions()]
+    with tempfile.TemporaryDirectory() as folder:
+        paths = [os.path.join(folder, "script%d" % place) for place in range(len(rows) + 1)]
+        for path, question in zip(paths, [None] + [q[1] for q in questions()]):
+            write_script(path, texts, question)
+        # in turns, so that a slow while of the machine tells on all alike
+        for _ in range(runs):
+            loaded = least(loaded, [run(paths[0])])
+            for place, (_, _, other, plain) in enumerate(questions()):
+                theirs = spent_by(lambda: base.execute(other).fetchall()) if base else float("inf")
+                rows[place] = least(rows[place], [run(paths[place + 1]), theirs, spent_by(lambda: plain(documents))])
     print("| question | ms | sqlite3, ms | ratio | plain Python, ms | ratio |")
     print("|---|---|---|---|---|---|")
-    with tempfile.TemporaryDirectory() as folder:
-        path = os.path.join(folder, "script")
-        write_script(path, texts, None)
-        loaded = min(run(path) for _ in range(runs))
-        for name, question, other, plain in questions():
-            write_script(path, texts, question)
-            ours = max(0.0, (min(run(path) for _ in range(runs)) - loaded) / TIMES)
-            row = "| %s | %.1f |" % (name, ours * 1000)
-            if base:
-                theirs = best(runs, lambda: base.execute(other).fetchall())
-                row += " %.1f | %.2f |" % (theirs * 1000, ours / theirs)
-            else:
-                row += " | |"
-            loops = best(runs, lambda: plain(documents))
-            print(row + " %.1f | %.2f |" % (loops * 1000, ours / loops), flush=True)
-    print("loading takes %.2f s" % loaded)
+    for (name, _, _, _), (whole, theirs, loops) in zip(questions(), rows):
+        ours = max(0.0, (whole - loaded[0]) / TIMES)
+        print("| %s | %.1f |" % (name, ours * 1000) + beside(ours, theirs) + beside(ours, loops))
+    print("loading takes %.2f s" % loaded[0])
 
 
 if __name__ == "__main__":
