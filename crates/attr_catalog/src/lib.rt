@@ -12,8 +12,6 @@ mod kinds;
 mod names;
 mod path;
 mod stored;
-#[cfg(test)]
-mod tests;
 mod way;
 
 pub use add_fault::AddFault;

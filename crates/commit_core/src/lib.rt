@@ -26,8 +26,6 @@ mod settings;
 mod state_laws;
 mod store;
 mod table;
-#[cfg(test)]
-mod tests;
 
 pub use entry::Entry;
 pub use laws::{

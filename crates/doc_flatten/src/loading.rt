@@ -11,9 +11,6 @@ use serde_json::Value as Json;
 use std::alloc::Global;
 use std::slice;
 
-#[cfg(test)]
-mod tests;
-
 /// Reads the documents of a JSON text: one object (RFC 8259), or an array of objects.
 pub fn read_docs(alloc: Global, text: &str) -> Result<Vec<Doc>, LoadFault>
     ensures ok { IfOk result (λ docs. documents_of text.now ≡ Ok docs.items) }

@@ -16,8 +16,6 @@ mod doc;
 mod kind;
 mod laws;
 mod spelling;
-#[cfg(test)]
-mod tests;
 mod utf;
 mod value;
 

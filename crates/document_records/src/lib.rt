@@ -10,8 +10,6 @@ mod parts;
 mod record;
 mod record_reading;
 mod stored_value;
-#[cfg(test)]
-mod tests;
 mod whole_document;
 
 pub use laws::{records_are_their_documents, records_keep_documents};

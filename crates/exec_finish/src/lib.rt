@@ -13,8 +13,6 @@ mod finishing;
 mod laws;
 mod likeness;
 mod ordering;
-#[cfg(test)]
-mod tests;
 mod values;
 
 pub use finishing::finish;

@@ -5,7 +5,5 @@
 #![tactic(auto)]
 
 mod filtering;
-#[cfg(test)]
-mod tests;
 
 pub use filtering::filter;

@@ -19,8 +19,6 @@ mod putting;
 mod reading;
 mod steps;
 mod taking;
-#[cfg(test)]
-mod tests;
 mod walking;
 mod walks;
 mod word;

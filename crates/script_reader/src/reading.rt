@@ -36,6 +36,3 @@ pub fn read_script(alloc: Global, bytes: &[u8]) -> Result<Script, ScriptReadFaul
     }
     Ok(Script::new(draft.into_lines()))
 }
-
-#[cfg(test)]
-mod tests;

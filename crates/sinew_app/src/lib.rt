@@ -16,8 +16,6 @@ mod running;
 mod serial;
 mod status;
 mod sure;
-#[cfg(test)]
-mod tests;
 mod writing;
 
 pub use laws::{

@@ -21,8 +21,6 @@ mod sure_sink;
 mod sure_source;
 mod take_fault;
 mod taken;
-#[cfg(test)]
-mod tests;
 mod turns;
 mod writing;
 mod written;

@@ -27,8 +27,6 @@ mod select_plan;
 mod set_plan;
 mod slot;
 mod table_rows;
-#[cfg(test)]
-mod tests;
 mod truth_value;
 mod tuple;
 mod tuples;

@@ -6,8 +6,6 @@
 //! Read `specs/PrintingText.antt` first, then `specs/PrintingQuery.antt` and `specs/PrintingTerm.antt`.
 #![tactic(auto)]
 
-#[cfg(test)]
-mod print_examples;
 mod print_laws;
 mod print_leaves;
 mod print_queries;

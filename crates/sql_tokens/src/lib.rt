@@ -11,8 +11,6 @@ mod laws;
 mod lengths;
 mod lexeme;
 mod scanning;
-#[cfg(test)]
-mod tests;
 mod token;
 mod token_fault;
 mod token_sort;

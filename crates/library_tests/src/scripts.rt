@@ -1,5 +1,4 @@
-use crate::reading::{MOST_BYTES, read_script};
-use crate::script_read_fault::ScriptReadFault;
+use script_reader::{MOST_BYTES, ScriptReadFault, read_script};
 use std::alloc::Global;
 use std::fmt::Write;
 use std::process::Abort;

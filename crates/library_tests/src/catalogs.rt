@@ -1,7 +1,7 @@
 ghost use Rattle.std.specs.Prelude.{◌≡◌, drop};
 ghost use Rattle.std.specs.List.{All};
 
-use crate::{AddFault, Catalog, Home, Path, Way};
+use attr_catalog::{Catalog, Home, Path, Way};
 use doc_values::{AttrId, Kind};
 use std::process::Abort;
 use std::test::Fail;
@@ -91,21 +91,6 @@ fn three_pairs<R: Abort + AllocGlobal>(rt: &R) -> Result<Catalog, Fail> {
     Ok(catalog)
 }
 
-#[test]
-fn pairs_are_found(rt: HostRuntime) -> Result<(), Fail> {
-    let catalog = three_pairs(&rt)?;
-    assert_eq!(rt; catalog.len(), 3);
-    assert_eq!(rt; catalog.find("a.b", Kind::Bool), None);
-    assert_eq!(rt; catalog.find("b", Kind::Int), None);
-    let kinds = catalog.kinds_of("a.b");
-    assert_eq!(rt; (kinds.int_id, kinds.text_id), (Some(AB), Some(TEXT)));
-    assert_eq!(rt;
-        (kinds.bool_id, kinds.array_id, kinds.object_id),
-        (None, None, None)
-    );
-    Ok(())
-}
-
 fn row_of_ab<'a>(count: u32, home: Home, mark: Option<u32>) -> Row<'a> {
     ("a.b", Kind::Int, count, home, mark)
 }
@@ -170,34 +155,6 @@ fn what_is_cut_away_can_be_added_again(rt: HostRuntime) -> Result<(), Fail> {
         assert_eq!(rt; catalog.find(name, kind), Some(want));
     }
     assert_eq!(rt; catalog.kinds_of("a").bool_id, Some(AttrId(3)));
-    Ok(())
-}
-
-#[test]
-fn is_full_at_its_bound(rt: HostRuntime) -> Result<(), Fail> {
-    let mut catalog = Catalog::new(rt.alloc());
-    for number in 0..65_536u32 {
-        let name = format!(in rt.alloc(); "{number}")?;
-        assert_eq!(rt; catalog.add(&name, Kind::Bool)?, AttrId(number));
-    }
-    assert_eq!(rt; catalog.len(), 65_536);
-    assert_eq!(rt; catalog.add("0", Kind::Int), Err(AddFault::Full));
-    assert_eq!(rt; catalog.add("more", Kind::Bool), Err(AddFault::Full));
-    assert_eq!(rt; catalog.add("65535", Kind::Bool), Ok(AttrId(65_535)));
-    Ok(())
-}
-
-#[test]
-fn tells_long_names_apart(rt: HostRuntime) -> Result<(), Fail> {
-    let mut catalog = Catalog::new(rt.alloc());
-    for number in 0..1_000u32 {
-        let name = format!(in rt.alloc(); "{:0>250}", number)?;
-        catalog.add(&name, Kind::Text)?;
-    }
-    for number in 0..1_000u32 {
-        let name = format!(in rt.alloc(); "{:0>250}", number)?;
-        assert_eq!(rt; catalog.find(&name, Kind::Text), Some(AttrId(number)));
-    }
     Ok(())
 }
 

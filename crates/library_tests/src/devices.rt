@@ -1,8 +1,8 @@
-use crate::{
+use doc_values::{Bytes, Calls};
+use sinew_io::{
     MemSink, MemSource, Source, StdSink, StdSource, SureSink, SureSource, TakeFault, Written,
     read_up_to, write_all_of,
 };
-use doc_values::{Bytes, Calls};
 use std::alloc::{AllocError, Global};
 use std::io;
 use std::io::{ErrorKind, Read};

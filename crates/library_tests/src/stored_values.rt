@@ -3,11 +3,11 @@ ghost use Rattle.std.specs.Int.{w64, to_le_bytes};
 ghost use Rattle.doc_values.specs.Value.{IsStorable};
 ghost use Rattle.attr_catalog.specs.Attribute.{fresh};
 
-use crate::{
-    Parts, Record, document, kind_stored, push_value, read_value, value_of_kind, value_under,
-};
 use attr_catalog::{AddFault, Catalog};
 use doc_values::{Kind, Utf, Value};
+use document_records::{
+    Parts, Record, document, kind_stored, push_value, read_value, value_of_kind, value_under,
+};
 use std::alloc::{AllocError, Global};
 use std::test::Fail;
 

@@ -1,7 +1,7 @@
 ghost use Rattle.std.specs.Prelude.{◌≡◌, ◌<◌, ◌≤◌, [], length, IfOk};
 ghost use Rattle.reservoir_record.specs.Spelling.{IsRecord, Spells};
 
-use crate::{
+use reservoir_record::{
     Field, FieldBytes, Steps, build, build_from_parts, check, count, field, find, put, take, walk,
 };
 use std::alloc::{AllocError, Global};
@@ -215,87 +215,5 @@ fn finds_among_many(rt: HostRuntime) -> Result<(), Fail> {
     }
     assert!(rt; found(&bytes, 4096).is_none());
     assert_eq!(rt; count(&bytes), 4096);
-    Ok(())
-}
-
-// The number in four bytes, by the table as it is written.
-fn number(bytes: &[u8], at: usize) -> Option<u32> {
-    let first = *bytes.get(at)?;
-    let second = *bytes.get(at.checked_add(1)?)?;
-    let third = *bytes.get(at.checked_add(2)?)?;
-    let fourth = *bytes.get(at.checked_add(3)?)?;
-    Some(u32::from_le_bytes([first, second, third, fourth]))
-}
-
-// A plain reading of the table.
-fn is_read(bytes: &[u8]) -> Option<()> {
-    let many = number(bytes, 0)? as usize;
-    let mut before = None;
-    for place in 0..many {
-        let id = number(bytes, 4 + 4 * place)?;
-        if id > 65_535 || before.is_some_and(|other| other >= id) {
-            return None;
-        }
-        before = Some(id);
-    }
-    let mut end = 0;
-    for place in 0..=many {
-        let at = number(bytes, 4 + 4 * many + 4 * place)?;
-        if at < end || (place == 0 && at != 0) {
-            return None;
-        }
-        end = at;
-    }
-    if end <= 16_777_216 && bytes.len() == 8 + 8 * many + end as usize {
-        Some(())
-    } else {
-        None
-    }
-}
-
-// The next of some numbers that follow no pattern.
-fn stirred(state: u64) -> u64 {
-    state
-        .wrapping_mul(6364136223846793005)
-        .wrapping_add(1442695040888963407)
-}
-
-#[test]
-fn agrees_with_a_plain_reading(rt: HostRuntime) -> Result<(), Fail> {
-    let alloc = rt.alloc();
-    let mut state = 7;
-    let mut taken = 0u32;
-    for _ in 0..10_000 {
-        let mut bytes = Vec::new(alloc);
-        state = stirred(state);
-        for _ in 0..state % 20 {
-            state = stirred(state);
-            bytes.push(((state >> 40) % 3 % 2) as u8)?;
-        }
-        assert_eq!(rt;
-            check(&bytes),
-            is_read(&bytes).is_some(),
-            "{}",
-            hex(alloc, &bytes)?
-        );
-        state = stirred(state);
-        let row = b"\x02\0\0\0\x01\0\0\0\x02\0\0\0\0\0\0\0\0\0\0\0\x01\0\0\0\x01";
-        let mut bytes = Vec::from_slice(alloc, row.as_slice())?;
-        let place = ((state >> 33) % 25) as usize;
-        if place < bytes.len() {
-            bytes[place] = ((state >> 50) % 4) as u8;
-        }
-        assert_eq!(rt;
-            check(&bytes),
-            is_read(&bytes).is_some(),
-            "{}",
-            hex(alloc, &bytes)?
-        );
-        if check(&bytes) && taken < 10_000 {
-            taken += 1;
-        }
-    }
-    assert!(rt; taken > 100);
-    assert!(rt; taken < 9_900);
     Ok(())
 }

@@ -2,7 +2,7 @@ ghost use Rattle.std.specs.Prelude.{All};
 ghost use Rattle.sql_tokens.specs.Forms.{IsToken};
 ghost use Rattle.sql_tokens.specs.Tokens.{Stands};
 
-use crate::{Token, TokenFault, TokenSort, numeral_value, quoted_name, text_value, tokens};
+use sql_tokens::{Token, TokenFault, TokenSort, numeral_value, quoted_name, text_value, tokens};
 use std::alloc::{AllocError, Global};
 use std::test::Fail;
 

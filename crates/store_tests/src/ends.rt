@@ -1,6 +1,6 @@
-use crate::{Status, sinew_in_memory, sinew_serial};
 use commit_core::{Core, Settings};
 use doc_values::{Bytes, Calls};
+use sinew_app::{Status, sinew_in_memory, sinew_serial};
 use sinew_io::{MemSink, MemSource, SureSink, SureSource};
 use std::process::Abort;
 use std::test::Fail;
@@ -34,89 +34,10 @@ fn runs<R: Abort + AllocGlobal>(
     Ok(())
 }
 
-// Scripts that print one run.
-const SAME: [&[u8]; 5] = [
-    SMALLEST,
-    b"1 LOAD t {\"a\":1}\r\n\r\n1 SELECT a FROM t\r\n",
-    b"\n \t\r\n# LOAD t 3\n\t #\n1 LOAD t {\"a\":1}\n\n1 SELECT a FROM t",
-    b" \t1\t LOAD\tt\t {\"a\" : 1} \t\n1  SELECT \t a\tFROM  t \r",
-    b"1 load t{\"a\":1}\n1\rsElEcT a fRoM t\n",
-];
-
-// Scripts, and what is printed of them.
-const SCRIPTS: [(&[u8], &[u8]); 13] = [
-    (b"", b". 0\n"),
-    (b"# nothing\n\n", b". 0\n"),
-    (b"1 SELECT a FROM t", b"#1.1 @0\nok 0\n. 0\n"),
-    (
-        b"1 LOAD t {\"b\":1}\n1 SELECT a FROM t",
-        b"#1.1 @1\nok 1\n#1.2 @1\n[null]\nok 1\n= 1 1.1\n. 1\n",
-    ),
-    (
-        b"1 LOAD t []\n1 SELECT a FROM t",
-        b"#1.1 @1\nok 0\n#1.2 @1\nok 0\n= 1 1.1\n. 1\n",
-    ),
-    (
-        b"1 LOAD t [{\"a\":1},{},{\"a\":-3}]\n1 SELECT a FROM t",
-        b"#1.1 @1\nok 3\n#1.2 @1\n[1]\n[null]\n[-3]\nok 3\n= 1 1.1\n. 1\n",
-    ),
-    (
-        b"1\n1 DROP t\n1 SELECT a b c FROM t",
-        b"#1.1 @0\n! syntax\n#1.2 @0\n! syntax\n#1.3 @0\n! syntax\n. 0\n",
-    ),
-    (
-        b"1 SELECT set FROM t\n1 SELECT a FROM By\n1 LOAD select {}",
-        b"#1.1 @0\n! syntax\n#1.2 @0\n! syntax\n#1.3 @0\n! syntax\n. 0\n",
-    ),
-    (
-        b"1 LOAD t\n1 LOAD t 3\n1 LOAD t {\"a\":",
-        b"#1.1 @0\n! json 0\n#1.2 @0\n! json 0\n#1.3 @0\n! json 0\n. 0\n",
-    ),
-    (
-        b"1 LOAD t {\"a\":1.5}\n1 LOAD t [{\"a\":1},{\"a.b\":1}]",
-        b"#1.1 @0\n! json 1\n#1.2 @0\n! json 2\n. 0\n",
-    ),
-    (
-        b"1 LOAD t {\"a\":\"x\"}\n1 LOAD t [3]\n1 LOAD t {\"a\":[1,{}]}\n1 SELECT a FROM t",
-        b"#1.1 @1\nok 1\n#1.2 @1\n! json 0\n#1.3 @2\nok 1\n#1.4 @2\n[\"x\"]\n[[1,{}]]\nok 2\n= 1 1.1\n= 2 1.3\n. 2\n",
-    ),
-    (
-        b"1 SELECT a FROM t\n1 LOAD t {\"a\":1}\n1 LOAD u {\"a\":2}\n1 SELECT a FROM u",
-        b"#1.1 @0\nok 0\n#1.2 @1\nok 1\n#1.3 @2\nok 1\n#1.4 @2\n[2]\nok 1\n= 1 1.2\n= 2 1.3\n. 2\n",
-    ),
-    (
-        b"1 LOAD t {\"u\":{\"x\":1}}\n1 SELECT \"u.x\" FROM t\n1 LOAD t []",
-        b"#1.1 @1\nok 1\n#1.2 @1\n[1]\nok 1\n#1.3 @2\nok 0\n= 1 1.1\n= 2 1.3\n. 2\n",
-    ),
-];
-
 #[test]
-fn scripts_print_their_runs(rt: HostRuntime) -> Result<(), Fail> {
-    for script in SAME {
-        ends(&rt, script, Status::Done, PRINTED)?;
-    }
-    for (script, output) in SCRIPTS {
-        ends(&rt, script, Status::Done, output)?;
-    }
-    Ok(())
-}
-
-#[test]
-fn other_bytes_are_refused(rt: HostRuntime) -> Result<(), Fail> {
-    let rows: [(&[u8], &[u8]); 6] = [
-        (b"65 SELECT a FROM t", b"? script 1 session\n"),
-        (b"1# SELECT a FROM t", b"? script 1 session\n"),
-        (
-            b"1 LOAD t {\"a\":1}\n\n# x\nSELECT a FROM t\n\xff",
-            b"? script 4 session\n",
-        ),
-        (b"1 LOAD t {\"a\":1}\n\xff", b"? script 2 utf8\n"),
-        (b"# \xff\n2 LOAD t {}", b"? script 1 utf8\n"),
-        (b"\xef\xbb\xbf1 SELECT a FROM t", b"? script 1 session\n"),
-    ];
-    for (script, output) in rows {
-        ends(&rt, script, Status::Script, output)?;
-    }
+fn a_run_in_memory_is_printed(rt: HostRuntime) -> Result<(), Fail> {
+    ends(&rt, SMALLEST, Status::Done, PRINTED)?;
+    ends(&rt, b"1 A\n\xff", Status::Script, b"? script 2 utf8\n")?;
     let long = Bytes::from_vec(vec![in rt.alloc(); b'\n'; 67_108_865]?);
     let mut source = SureSource::new(long, 65_536);
     runs(&rt, &mut source, Status::Script, b"? script 0 size\n")
