@@ -2,7 +2,8 @@ ghost use Rattle.std.specs.Prelude.{◌≡◌, ◌<◌, ◌≤◌, [], length, I
 ghost use Rattle.reservoir_record.specs.Spelling.{IsRecord, Spells};
 
 use reservoir_record::{
-    Field, FieldBytes, Steps, build, build_from_parts, check, count, field, find, put, take, walk,
+    Field, FieldBytes, Steps, a_spelling_has_one_list, build, build_from_parts, check, count,
+    field, find, put, take, walk,
 };
 use std::alloc::{AllocError, Global};
 use std::marker::Brand;
@@ -46,6 +47,7 @@ fn put_first(bytes: &mut Vec<u8>, id: u32, value: &[u8]) -> Result<(), AllocErro
     requires small { id < 65536 }
     requires fit { length value.now ≤ 16777216 }
 {
+    a_spelling_has_one_list();
     put(bytes, id, value)
 }
 

@@ -1,6 +1,6 @@
 use Rattle.std.proofs.Common.{List, [], ◌∷◌, refl, arith}
 use Rattle.reservoir_record.specs.declared.fields.Field.{Field}
-use Rattle.reservoir_record.proofs.tests.two_from_parts.Goals as goal
+use Rattle.library_tests.proofs.record_bytes.two_from_parts.Goals as goal
 
 pub build_from_parts-requires : goal.build_from_parts-requires
 build_from_parts-requires c = (

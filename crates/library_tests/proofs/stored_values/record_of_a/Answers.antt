@@ -1,7 +1,7 @@
 use Rattle.std.proofs.Common.{[], ◌∷◌, arith}
 use Rattle.std.specs.Int.{w64, to_le_bytes}
 use Rattle.reservoir_record.specs.Spelling.{AreFields}
-use Rattle.document_records.proofs.tests.record_of_a.Goals as goal
+use Rattle.library_tests.proofs.stored_values.record_of_a.Goals as goal
 
 are_fields : AreFields (record { id = 0; bytes = to_le_bytes w64 7 } ∷ [])
 are_fields = record { ascend = (omega arith, omega arith, tt); fit = omega arith }
