@@ -8,6 +8,7 @@ use crate::{
 };
 use attr_catalog::{AddFault, Catalog};
 use doc_values::{Kind, Utf, Value};
+use row_columns::ValueRef;
 use std::alloc::{AllocError, Global};
 use std::test::Fail;
 
@@ -69,19 +70,15 @@ fn has_seven(alloc: Global, catalog: &Catalog, stored: &Record) -> Result<bool, 
     requires stored { stored.now ≡ record { id = 0; bytes = to_le_bytes w64 7 } ∷ [] }
 {
     let kinds = catalog.kinds_of("a");
-    let number = value_of_kind(alloc, Kind::Int, kinds.int_id, stored)?;
-    let any = value_under(alloc, &kinds, stored)?;
+    let number = value_of_kind(Kind::Int, kinds.int_id, stored);
+    let any = value_under(&kinds, stored);
     let whole = document(alloc, catalog, stored)?;
     Ok(
-        is_seven(number.as_ref())
-            && is_seven(any.as_ref())
+        matches!(number, Some(ValueRef::Int(7)))
+            && matches!(any, Some(ValueRef::Int(7)))
             && whole.len() == 1
-            && is_seven(whole.get("a")),
+            && matches!(whole.get("a"), Some(Value::Int(7))),
     )
-}
-
-fn is_seven(value: Option<&Value>) -> bool {
-    matches!(value, Some(Value::Int(7)))
 }
 
 #[test]

@@ -1,6 +1,6 @@
 use crate::{finish, plain_values};
 use doc_values::{Bytes, Doc, Utf, Value};
-use sql_eval::{Expr, FromPlan, KeyPlan, OutRow, Rows, SelectPlan, Tuple, Tuples};
+use sql_eval::{Expr, FromPlan, KeyPlan, OutRow, Rows, SelectPlan, Tuples};
 use sqlite_items::Items;
 use std::alloc::{AllocError, Global};
 use std::test::Fail;
@@ -154,7 +154,7 @@ fn finishes_documents(rt: HostRuntime) -> Result<(), Fail> {
 fn gives_no_rows(rt: HostRuntime) -> Result<(), Fail> {
     let alloc = rt.alloc();
     let plan = plan(alloc, false, false, &[], None)?;
-    let rows = plain_values(alloc, &plan, &Tuples::from_vec(Vec::new(alloc)))?;
+    let rows = plain_values(alloc, &plan, &Tuples::new(Vec::new(alloc), Vec::new(alloc)))?;
     assert_eq!(rt; rows.items().len(), 0);
     Ok(())
 }

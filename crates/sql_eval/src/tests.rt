@@ -1,4 +1,4 @@
-use crate::{Expr, Row, Slot, Truth, Tuple, ValueRef, eval, like, truth};
+use crate::{Expr, Place, Sides, Truth, eval, like, truth};
 use doc_values::{Utf, Value};
 use std::test::Fail;
 
@@ -63,37 +63,14 @@ fn joins_truths(rt: HostRuntime) {
 }
 
 #[test]
-fn reads_cells(rt: HostRuntime) -> Result<(), Fail> {
-    let alloc = rt.alloc();
-    let mut cells = Vec::new(alloc);
-    cells.push(Some(Value::Int(7)))?;
-    cells.push(None)?;
-    let mut sides = Vec::new(alloc);
-    sides.push(Some(Row::new(cells, None)))?;
-    sides.push(None)?;
-    let tuple = Tuple::from_vec(sides);
-    let rows = [
-        (0, 0, true),
-        (0, 1, false),
-        (0, 2, false),
-        (1, 0, false),
-        (2, 0, false),
-    ];
-    for (table, column, found) in rows {
-        let seven = matches!(tuple.cell(Slot { table, column }), Some(ValueRef::Int(7)));
-        assert_eq!(rt; seven, found);
-    }
-    Ok(())
-}
-
-#[test]
 fn evaluates_constants(rt: HostRuntime) -> Result<(), Fail> {
     let alloc = rt.alloc();
-    let tuple = Tuple::from_vec(Vec::new(alloc));
+    let place = Place { rows: [0, 0, 0] };
+    let tuple = Sides::new(&[], place);
     let text = Expr::Text(Utf::of(alloc, "é")?);
     let value = eval(alloc, &text, &tuple)?;
     assert!(rt; matches!(value, Some(Value::Text(_))));
-    assert_eq!(rt; truth(alloc, &Expr::Bool(true), &tuple)?, Truth::True);
-    assert_eq!(rt; truth(alloc, &Expr::Null, &tuple)?, Truth::Unknown);
+    assert_eq!(rt; truth(&Expr::Bool(true), &tuple), Truth::True);
+    assert_eq!(rt; truth(&Expr::Null, &tuple), Truth::Unknown);
     Ok(())
 }
