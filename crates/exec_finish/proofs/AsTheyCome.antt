@@ -24,6 +24,10 @@ printed_so false [] limit star rows e = ap (λ (left : List Output). answer_text
 printed_so true [] limit star rows e = absurd (true≢false (sym e))
 printed_so is_distinct (k ∷ ks) limit star rows e = absurd (true≢false (sym e))
 
+empty : (m : ℕ) → take {A = Output} m [] ≡ []
+empty zero = refl
+empty (suc m) = refl
+
 -- the first rows are those that a limit admits
 first_taken : (limit : Option ℕ) (rows : List Output) (n : ℕ) → n ≡ length rows → take (admitted limit n) rows ≡ limited limit rows
 first_taken None rows n e = take_all n rows (omega arith)
@@ -35,10 +39,6 @@ first_taken (Some k) rows n e = by k rows n e
         none : min 0 n ≡ 0
         none = omega arith
     by (suc k) [] n e = empty (min (suc k) n)
-      where
-        empty : (m : ℕ) → take m [] ≡ []
-        empty zero = refl
-        empty (suc m) = refl
     by (suc k) (r ∷ rs) zero e = absurd (omega arith)
     by (suc k) (r ∷ rs) (suc n) e =
         let one : min (suc k) (suc n) ≡ suc (min k n) = omega arith in

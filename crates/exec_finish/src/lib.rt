@@ -7,6 +7,7 @@
 
 mod alike;
 mod answer;
+mod answering;
 mod distinct;
 mod feeding;
 mod finishing;
@@ -14,12 +15,12 @@ mod laws;
 mod lent_text;
 mod likeness;
 mod ordering;
-mod plain_answer;
+
 #[cfg(test)]
 mod tests;
 mod values;
 
 pub use finishing::finish;
 pub use laws::{answers_are_lines, rows_alike_are_equal, sorting_is_stable};
-pub use plain_answer::plain_answer;
+pub use answering::plain_answer;
 pub use values::plain_values;

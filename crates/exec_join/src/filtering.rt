@@ -15,9 +15,17 @@ pub fn filter(test: &Expr, tuples: Tuples) -> Tuples
     ensures exact { result ≡ filtered test.now tuples }
 {
     let (tables, mut places) = tuples.into_parts();
-    let kept = kept_in_front(test, &tables, &mut places);
-    places.truncate(kept);
+    keep(test, &tables, &mut places);
     Tuples::new(tables, places)
+}
+
+// The places that a test keeps, in their order.
+fn keep(test: &Expr, tables: &[TableRows], places: &mut Vec<Place>)
+    requires { All (λ place. CanEvaluate (tuple_at tables.now place) test.now) places.old.items }
+    ensures exact { places.new.items ≡ filter (λ place. keeps (truth_of (value_over (tuple_at tables.now place) test.now))) places.old.items }
+{
+    let kept = kept_in_front(test, tables, places);
+    places.truncate(kept);
 }
 
 // Moves the places that a test keeps to the front, in their order, and answers how many they are.

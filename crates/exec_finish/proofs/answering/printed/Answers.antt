@@ -2,7 +2,7 @@ use Rattle.std.proofs.Common.{◌∙◌, ap, map, take}
 use Rattle.exec_finish.specs.Answer.{answer_text}
 use Rattle.exec_finish.specs.Plain.{row_by}
 use Rattle.exec_finish.proofs.AsTheyCome.{printed_is_finished}
-use Rattle.exec_finish.proofs.plain_answer.printed.Goals as goal
+use Rattle.exec_finish.proofs.answering.printed.Goals as goal
 
 pub returns : goal.returns
 returns c =

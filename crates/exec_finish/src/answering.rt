@@ -1,4 +1,4 @@
-ghost use Rattle.std.specs.Prelude.{◌≡◌, ◌++◌, ◌≤◌, IfOk, OnOk, All, map, take, length, true};
+ghost use Rattle.std.specs.Prelude.{◌≡◌, ◌++◌, ◌≤◌, IfOk, OnOk, All, codes, flat_map, map, take, length, true};
 ghost use Rattle.sql_eval.specs.Resolved.{value_over};
 ghost use Rattle.sql_eval.specs.Widths.{CanEvaluate};
 ghost use Rattle.doc_values.specs.Value.{printed};
@@ -126,7 +126,20 @@ fn append_values<'a>(
         return Ok(());
     };
     append_lent(value(first, tuple), scratch, text)?;
-    for item in others {
+    append_others(others, tuple, scratch, text)
+}
+
+// Each value behind a comma.
+fn append_others<'a>(
+    items: &'a [Expr],
+    tuple: &Sides<'a>,
+    scratch: &mut Vec<u8>,
+    text: &mut Vec<u8>,
+) -> Result<(), AllocError>
+    requires { All (CanEvaluate tuple.now) items.now }
+    ensures ok { OnOk result (text.new.items ≡ text.old.items ++ flat_map (λ u. codes "," ++ u) (map printed (map (value_over tuple.now) items.now))) }
+{
+    for item in items {
         text.push(b',')?;
         append_lent(value(item, tuple), scratch, text)?;
     }
