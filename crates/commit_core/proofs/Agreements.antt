@@ -14,7 +14,7 @@ use Rattle.doc_values.specs.Order.{rank}
 use Rattle.doc_values.specs.Value.{kind_of, IsStorable}
 use Rattle.sql_tree.specs.declared.select.Select.{Select}
 use Rattle.sql_tree.specs.declared.table.Table.{Table}
-use Rattle.sql_eval.specs.Contents.{Cells}
+use Rattle.row_columns.specs.Contents.{Cells}
 use Rattle.sql_eval.specs.Meaning.{given, if_wanted}
 use Rattle.type_rules.specs.Uses.{columns_of}
 use Rattle.query_meaning.specs.Question.{answer_among}

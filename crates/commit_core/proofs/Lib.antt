@@ -15,3 +15,4 @@ pub mod PairsHeld
 pub mod Places
 pub mod Lights
 mod StoredRows
+mod RowsTurned

@@ -104,10 +104,12 @@ module _ (law : RecordsAreDocuments) (attributes : List Attribute) (once : IsOnc
   paths_named [] = All-nil (IsPathIn attributes)
   paths_named (c ∷ cs) = All-cons (IsPathIn attributes) (path_of attributes c) (map (path_of attributes) cs) (record { name = c.name; kinds = refl }) (paths_named cs)
 
-  -- what stands along a path can be read
-  pub along_readable : (fs : List Field) → IsKept (pairs_of attributes) fs → (paths : List ColumnPath) → All (IsPathIn attributes) paths → All (λ (p : ColumnPath). CanBeRead p.kinds fs) paths
-  along_readable fs kept paths named =
-      All-weaker (IsPathIn attributes) (λ (p : ColumnPath). CanBeRead p.kinds fs) (λ (p : ColumnPath) h. subst (λ k. CanBeRead k fs) (sym h.kinds) (law attributes fs h.name once kept).readable) paths named
+  -- what stands along paths can be read
+  pub all_readable : (records : List (List Field)) → All (IsKept (pairs_of attributes)) records → (paths : List ColumnPath) → All (IsPathIn attributes) paths → All (λ (p : ColumnPath). All (CanBeRead p.kinds) records) paths
+  all_readable records kept paths named =
+      All-weaker (IsPathIn attributes) (λ (p : ColumnPath). All (CanBeRead p.kinds) records)
+      (λ (p : ColumnPath) h. All-weaker (IsKept (pairs_of attributes)) (CanBeRead p.kinds) (λ (fs : List Field) k. subst (λ ks. CanBeRead ks fs) (sym h.kinds) (law attributes fs h.name once k).readable) records kept)
+      paths named
 
 -- documents that stand in rows
 pub rows_ordered : (pairs : Pairs) (records : List (List Field)) (n : ℕ) → EachIs (λ (row : Row). IsDocument row.document) (rows_from n (map (document_stored pairs) records)) → EachIs (λ fields. IsDocument (document_stored pairs fields)) records

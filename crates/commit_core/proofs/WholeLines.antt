@@ -19,7 +19,7 @@ use Rattle.sql_tree.specs.declared.statement.Statement.TheVariants as statement
 use Rattle.sql_tree.specs.declared.table.Table.{Table}
 use Rattle.sql_tree.specs.declared.term.Term.{Term}
 use Rattle.sql_grammar.specs.StatementReader.{statement_of}
-use Rattle.sql_eval.specs.Contents.{Output}
+use Rattle.row_columns.specs.Contents.{Output}
 use Rattle.sql_eval.specs.Meaning.{meaning}
 use Rattle.sql_eval.specs.OneLine.{HaveOneLineArrays}
 use Rattle.type_rules.specs.declared.type_fault.TypeFault.{TypeFault}

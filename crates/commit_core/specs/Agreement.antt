@@ -1,7 +1,7 @@
 -- A reading of a question, and when it agrees with a list of commits.
 use Rattle.std.specs.Prelude.{◌≡◌, ℕ, ◌≤◌, List, Option, Some, length, take}
 use Rattle.sql_tree.specs.declared.select.Select.{Select}
-use Rattle.sql_eval.specs.Contents.{Cells}
+use Rattle.row_columns.specs.Contents.{Cells}
 use Rattle.query_meaning.specs.Plans.{rows_read}
 use Rattle.commit_core.specs.Query.{documents_asked}
 use Rattle.commit_core.specs.Plan.{Plan, refused, read, write, plan_of}

@@ -1,5 +1,6 @@
 -- The rows that are read of the records of a table.
-use Rattle.std.specs.Prelude.{◌≡◌, ℕ, List, Bool, map, Option, Some, None, if◌then◌else◌}
+use Rattle.std.specs.Prelude.{◌≡◌, ℕ, List, [], Bool, map, Option, Some, None, if◌then◌else◌}
+use Rattle.doc_values.specs.Doc.{Fields}
 use Rattle.doc_values.specs.declared.col_ref.ColRef.{ColRef}
 use Rattle.doc_values.specs.declared.kind.Kind.{Kind}
 use Rattle.doc_values.specs.declared.value.Value.{Value}
@@ -7,7 +8,7 @@ use Rattle.reservoir_record.specs.declared.fields.Field.{Field}
 use Rattle.attr_catalog.specs.Attribute.{Attribute}
 use Rattle.attr_catalog.specs.Catalog.{kinds_of, id_at}
 use Rattle.attr_catalog.specs.declared.kinds.Kinds.{Kinds}
-use Rattle.sql_eval.specs.Contents.{Cells}
+use Rattle.row_columns.specs.Contents.{Cells}
 use Rattle.commit_core.specs.declared.column_path.ColumnPath.{ColumnPath}
 use Rattle.document_records.specs.ReadBack.{value_of_kind, value_under}
 use Rattle.document_records.specs.StoredDocument.{pairs_of, document_stored}
@@ -33,3 +34,11 @@ cell_along fields path = cell_at_kind path.kinds path.want fields
 -- The row of a record along paths, with its document where whole documents are asked for.
 abbrev pub row_along : List Attribute → List ColumnPath → Bool → List Field → Cells
 row_along attributes paths whole fields = record { cells = map (cell_along fields) paths; doc = if whole then Some (document_stored (pairs_of attributes) fields) else None }
+
+-- What records have along a path.
+abbrev pub column_along : List (List Field) → ColumnPath → List (Option Value)
+column_along records path = map (λ fields. cell_along fields path) records
+
+-- The documents of records, where whole documents are asked for.
+abbrev pub documents_along : List (List ℕ × Kind) → Bool → List (List Field) → List Fields
+documents_along pairs whole records = if whole then map (document_stored pairs) records else []

@@ -4,7 +4,8 @@ ghost use Rattle.commit_core.specs.Replies.{reply_at, told_of, state_after};
 use crate::reply::Reply;
 use doc_values::Utf;
 use query_meaning::{answer, plans_can_be_run, plans_keep_meaning};
-use sql_eval::{Row, SelectPlan};
+use row_columns::TableRows;
+use sql_eval::SelectPlan;
 use std::alloc::AllocError;
 use std::marker::Model;
 
@@ -14,11 +15,11 @@ pub struct Reading {
     text: Utf,
     plan: SelectPlan,
     at: u64,
-    rows: Option<Vec<Row>>,
+    rows: Option<TableRows>,
 }
 
 impl Model for Reading {
-    ghost use Rattle.std.specs.Prelude.{All, IfSome, option_map};
+    ghost use Rattle.std.specs.Prelude.{All, IfSome};
     ghost use Rattle.commit_core.specs.Agreement.{ReadingOf};
     ghost use Rattle.commit_core.specs.Plan.{plan_of};
     ghost use Rattle.commit_core.specs.Planned.{IsReadAs};
@@ -26,9 +27,9 @@ impl Model for Reading {
 
     ghost Value = { ReadingOf };
 
-    ghost view = { λ r. record { text = r.text; at = r.at; rows = option_map (λ v. v.items) r.rows } };
+    ghost view = { λ r. record { text = r.text; at = r.at; rows = r.rows } };
 
-    ghost invariant = { λ r. IsReadAs r.plan (plan_of r.text) × IfSome r.rows (λ v. All IsStorableRow v.items) };
+    ghost invariant = { λ r. IsReadAs r.plan (plan_of r.text) × IfSome r.rows (All IsStorableRow) };
 }
 
 impl Reading {
@@ -65,9 +66,9 @@ impl Reading {
     }
 
     /// Takes the rows that were read over so many commits.
-    pub(crate) fn fill(&mut self, at: u64, rows: Vec<Row>)
-        requires { All IsStorableRow rows.items }
-        ensures exact { self.new ≡ record { text = self.old.text; at = at; rows = Some rows.items } }
+    pub(crate) fn fill(&mut self, at: u64, rows: TableRows)
+        requires { All IsStorableRow rows }
+        ensures exact { self.new ≡ record { text = self.old.text; at = at; rows = Some rows } }
     {
         self.at = at;
         self.rows = Some(rows);

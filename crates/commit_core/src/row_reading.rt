@@ -1,15 +1,16 @@
-ghost use Rattle.std.specs.Prelude.{◌≡◌, All, map, IfOk};
+ghost use Rattle.std.specs.Prelude.{◌≡◌, All, map, option_map, IfOk};
 ghost use Rattle.doc_values.specs.Doc.{IsDocument};
 ghost use Rattle.attr_catalog.specs.Catalog.{IsOnce};
 ghost use Rattle.document_records.specs.ReadBack.{CanBeRead};
 ghost use Rattle.document_records.specs.StoredDocument.{pairs_of, document_stored, IsKept};
-ghost use Rattle.commit_core.specs.StoredRow.{cell_along, path_of, row_along, IsPathIn};
+ghost use Rattle.row_columns.specs.Lent.{owned};
+ghost use Rattle.commit_core.specs.StoredRow.{cell_along, column_along, documents_along, path_of, row_along, IsPathIn};
 
 use crate::column_path::ColumnPath;
 use attr_catalog::Catalog;
-use doc_values::{ColRef, Value};
+use doc_values::{ColRef, Doc};
 use document_records::{Record, document, records_are_their_documents, value_of_kind, value_under};
-use sql_eval::Row;
+use row_columns::{CellColumn, TableRows, ValueRef};
 use std::alloc::{AllocError, Global};
 
 /// Where each column is read.
@@ -30,71 +31,101 @@ pub(crate) fn paths(
     Ok(paths)
 }
 
-/// The row of each record along paths, with its document where whole documents are asked for.
+/// The rows of records along paths, with their documents where whole documents are asked for. They are read column by
+/// column.
 pub(crate) fn rows_along(
     alloc: Global,
     catalog: &Catalog,
     paths: &[ColumnPath],
     whole: bool,
     records: &[Record],
-) -> Result<Vec<Row>, AllocError>
+) -> Result<TableRows, AllocError>
     requires once { IsOnce catalog.now }
     requires named { All (IsPathIn catalog.now) paths.now }
     requires kept { All (IsKept (pairs_of catalog.now)) records.now }
     requires ordered { All (λ fields. IsDocument (document_stored (pairs_of catalog.now) fields)) records.now }
-    ensures ok { IfOk result (λ rows. rows.items ≡ map (row_along catalog.now paths.now whole) records.now) }
-{
-    let mut rows = Vec::with_capacity(alloc, records.len())?;
-    for stored in records {
-        rows.push(row(alloc, catalog, paths, whole, stored)?)?;
-    }
-    Ok(rows)
-}
-
-fn row(
-    alloc: Global,
-    catalog: &Catalog,
-    paths: &[ColumnPath],
-    whole: bool,
-    stored: &Record,
-) -> Result<Row, AllocError>
-    requires once { IsOnce catalog.now }
-    requires named { All (IsPathIn catalog.now) paths.now }
-    requires kept { IsKept (pairs_of catalog.now) stored.now }
-    requires ordered { IsDocument (document_stored (pairs_of catalog.now) stored.now) }
-    ensures ok { IfOk result (λ row. row ≡ row_along catalog.now paths.now whole stored.now) }
+    ensures ok { IfOk result (λ rows. rows ≡ map (row_along catalog.now paths.now whole) records.now) }
 {
     records_are_their_documents();
-    let cells = cells(alloc, paths, stored)?;
-    let document = if whole {
-        Some(document(alloc, catalog, stored)?)
-    } else {
-        None
+    let Ok(count) = u32::try_from(records.len()) else {
+        return Err(AllocError);
     };
-    Ok(Row::new(cells, document))
+    let columns = columns_along(alloc, paths, records)?;
+    let documents = documents(alloc, catalog, whole, records)?;
+    Ok(TableRows::new(count, columns, documents))
 }
 
-fn cells(
+fn columns_along(
     alloc: Global,
     paths: &[ColumnPath],
-    stored: &Record,
-) -> Result<Vec<Option<Value>>, AllocError>
-    requires { All (λ path. CanBeRead path.kinds stored.now) paths.now }
-    ensures ok { IfOk result (λ cells. cells.items ≡ map (cell_along stored.now) paths.now) }
+    records: &[Record],
+) -> Result<Vec<CellColumn>, AllocError>
+    requires { All (λ path. All (CanBeRead path.kinds) records.now) paths.now }
+    ensures ok { IfOk result (λ columns. columns.items ≡ map (column_along records.now) paths.now) }
 {
-    let mut cells = Vec::with_capacity(alloc, paths.len())?;
+    let mut columns = Vec::with_capacity(alloc, paths.len())?;
     for path in paths {
-        cells.push(cell(alloc, *path, stored)?)?;
+        columns.push(column_along(alloc, *path, records)?)?;
     }
-    Ok(cells)
+    Ok(columns)
 }
 
-fn cell(alloc: Global, path: ColumnPath, stored: &Record) -> Result<Option<Value>, AllocError>
+fn column_along(
+    alloc: Global,
+    path: ColumnPath,
+    records: &[Record],
+) -> Result<CellColumn, AllocError>
+    requires { All (CanBeRead path.kinds) records.now }
+    ensures ok { IfOk result (λ column. column ≡ column_along records.now path) }
+{
+    let mut column = CellColumn::new(alloc);
+    column.reserve(records.len())?;
+    for stored in records {
+        column.push(cell(path, stored))?;
+    }
+    Ok(column)
+}
+
+fn cell(path: ColumnPath, stored: &Record) -> Option<ValueRef<'_>>
     requires { CanBeRead path.kinds stored.now }
-    ensures ok { IfOk result (λ value. value ≡ cell_along stored.now path) }
+    ensures exact { option_map owned result ≡ cell_along stored.now path }
 {
     match path.want {
-        Some(kind) => value_of_kind(alloc, kind, path.kinds.of(kind), stored),
-        None => value_under(alloc, &path.kinds, stored),
+        Some(kind) => value_of_kind(kind, path.kinds.of(kind), stored),
+        None => value_under(&path.kinds, stored),
     }
+}
+
+// The document of each record where whole documents are asked for; else none.
+fn documents(
+    alloc: Global,
+    catalog: &Catalog,
+    whole: bool,
+    records: &[Record],
+) -> Result<Vec<Doc>, AllocError>
+    requires kept { All (IsKept (pairs_of catalog.now)) records.now }
+    requires ordered { All (λ fields. IsDocument (document_stored (pairs_of catalog.now) fields)) records.now }
+    ensures ok { IfOk result (λ documents. documents.items ≡ documents_along (pairs_of catalog.now) whole records.now) }
+{
+    if whole {
+        all_documents(alloc, catalog, records)
+    } else {
+        Ok(Vec::new(alloc))
+    }
+}
+
+fn all_documents(
+    alloc: Global,
+    catalog: &Catalog,
+    records: &[Record],
+) -> Result<Vec<Doc>, AllocError>
+    requires kept { All (IsKept (pairs_of catalog.now)) records.now }
+    requires ordered { All (λ fields. IsDocument (document_stored (pairs_of catalog.now) fields)) records.now }
+    ensures ok { IfOk result (λ documents. documents.items ≡ map (document_stored (pairs_of catalog.now)) records.now) }
+{
+    let mut documents = Vec::with_capacity(alloc, records.len())?;
+    for stored in records {
+        documents.push(document(alloc, catalog, stored)?)?;
+    }
+    Ok(documents)
 }

@@ -12,7 +12,8 @@ use crate::reading::Reading;
 use crate::reply::Reply;
 use crate::state_laws::{loads_are_light, states_keep_the_rules};
 use doc_values::{Bytes, Utf, documents_are_maps};
-use sql_eval::{Row, SelectPlan};
+use row_columns::TableRows;
+use sql_eval::SelectPlan;
 use std::alloc::{AllocError, Global};
 use std::marker::Model;
 
@@ -166,9 +167,9 @@ impl Core {
     }
 
     // The rows that a question reads.
-    fn rows(&self, plan: &SelectPlan) -> Result<Vec<Row>, AllocError>
+    fn rows(&self, plan: &SelectPlan) -> Result<TableRows, AllocError>
         requires { (p : Plan) × IsReadAs plan.now p }
-        ensures ok { IfOk result (λ rows. (p : Plan) (asked : IsReadAs plan.now p) → rows.items ≡ rows_read asked.question (documents_asked asked.question (state_of self.now))) }
+        ensures ok { IfOk result (λ rows. (p : Plan) (asked : IsReadAs plan.now p) → rows ≡ rows_read asked.question (documents_asked asked.question (state_of self.now))) }
     {
         states_keep_the_rules();
         let Some(collection) = plan.from.tables.get(0) else {
@@ -179,7 +180,10 @@ impl Core {
         };
         match self.collections.get(collection.text()) {
             Some(table) => table.rows(columns.as_slice(), plan.star),
-            None => Ok(Vec::new(self.allocator())),
+            None => {
+                let alloc = self.allocator();
+                Ok(TableRows::new(0, Vec::new(alloc), Vec::new(alloc)))
+            }
         }
     }
 

@@ -8,7 +8,7 @@ use crate::row_reading::{paths, rows_along};
 use attr_catalog::Catalog;
 use doc_values::{ColRef, Utf};
 use document_records::{Record, records_are_their_documents};
-use sql_eval::Row;
+use row_columns::TableRows;
 use std::alloc::{AllocError, Global};
 use std::marker::Model;
 
@@ -69,9 +69,9 @@ impl Table {
     }
 
     /// The row of each document: a value, or NULL, for each column, and the document where whole ones are asked for.
-    pub(crate) fn rows(&self, columns: &[ColRef], whole: bool) -> Result<Vec<Row>, AllocError>
+    pub(crate) fn rows(&self, columns: &[ColRef], whole: bool) -> Result<TableRows, AllocError>
         requires { All (λ row. IsDocument row.document) self.now.rows }
-        ensures ok { IfOk result (λ rows. rows.items ≡ map (cells_under columns.now whole) (map (λ row. row.document) self.now.rows)) }
+        ensures ok { IfOk result (λ rows. rows ≡ map (cells_under columns.now whole) (map (λ row. row.document) self.now.rows)) }
     {
         records_are_their_documents();
         self.catalog.keeps_the_rules();

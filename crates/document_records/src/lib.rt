@@ -16,5 +16,7 @@ pub use laws::{records_are_their_documents, records_keep_documents};
 pub use parts::Parts;
 pub use record::Record;
 pub use record_reading::{value_of_kind, value_under};
-pub use stored_value::{kind_stored, push_value, read_value, stored_values_are_told_apart};
+pub use stored_value::{
+    kind_stored, push_value, read_lent, read_value, stored_values_are_told_apart,
+};
 pub use whole_document::document;

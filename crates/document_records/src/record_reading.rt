@@ -1,51 +1,43 @@
-ghost use Rattle.std.specs.Prelude.{◌≡◌, IfOk};
+ghost use Rattle.std.specs.Prelude.{◌≡◌, option_map};
+ghost use Rattle.row_columns.specs.Lent.{owned};
 ghost use Rattle.document_records.specs.ReadBack.{value_of_kind as value_of_one, value_under as value_found, IsReadable, CanBeRead};
 
 use crate::record::Record;
-use crate::stored_value::read_value;
+use crate::stored_value::read_lent;
 use attr_catalog::Kinds;
-use doc_values::{AttrId, Kind, Value};
-use std::alloc::{AllocError, Global};
+use doc_values::{AttrId, Kind};
+use row_columns::ValueRef;
 
-/// The value that a record has under a name, of whichever kind it is.
-pub fn value_under(
-    alloc: Global,
-    kinds: &Kinds,
-    stored: &Record,
-) -> Result<Option<Value>, AllocError>
+/// The value that a record has under a name, of whichever kind it is; lent from its bytes.
+pub fn value_under<'a>(kinds: &Kinds, stored: &'a Record) -> Option<ValueRef<'a>>
     requires { CanBeRead kinds.now stored.now }
-    ensures ok { IfOk result (λ value. value ≡ value_found kinds.now stored.now) }
+    ensures exact { option_map owned result ≡ value_found kinds.now stored.now }
 {
-    if let Some(value) = value_of_kind(alloc, Kind::Bool, kinds.bool_id, stored)? {
-        return Ok(Some(value));
+    if let Some(value) = value_of_kind(Kind::Bool, kinds.bool_id, stored) {
+        return Some(value);
     }
-    if let Some(value) = value_of_kind(alloc, Kind::Int, kinds.int_id, stored)? {
-        return Ok(Some(value));
+    if let Some(value) = value_of_kind(Kind::Int, kinds.int_id, stored) {
+        return Some(value);
     }
-    if let Some(value) = value_of_kind(alloc, Kind::Text, kinds.text_id, stored)? {
-        return Ok(Some(value));
+    if let Some(value) = value_of_kind(Kind::Text, kinds.text_id, stored) {
+        return Some(value);
     }
-    if let Some(value) = value_of_kind(alloc, Kind::Array, kinds.array_id, stored)? {
-        return Ok(Some(value));
+    if let Some(value) = value_of_kind(Kind::Array, kinds.array_id, stored) {
+        return Some(value);
     }
-    value_of_kind(alloc, Kind::Object, kinds.object_id, stored)
+    value_of_kind(Kind::Object, kinds.object_id, stored)
 }
 
-/// The value of one kind.
-pub fn value_of_kind(
-    alloc: Global,
-    kind: Kind,
-    id: Option<AttrId>,
-    stored: &Record,
-) -> Result<Option<Value>, AllocError>
+/// The value of one kind, lent from its bytes.
+pub fn value_of_kind(kind: Kind, id: Option<AttrId>, stored: &Record) -> Option<ValueRef<'_>>
     requires { IsReadable kind id stored.now }
-    ensures ok { IfOk result (λ value. value ≡ value_of_one kind id stored.now) }
+    ensures exact { option_map owned result ≡ value_of_one kind id stored.now }
 {
     let Some(id) = id else {
-        return Ok(None);
+        return None;
     };
     match stored.find(id.0) {
-        Some(bytes) => Ok(Some(read_value(alloc, kind, bytes)?)),
-        None => Ok(None),
+        Some(bytes) => Some(read_lent(kind, bytes)),
+        None => None,
     }
 }

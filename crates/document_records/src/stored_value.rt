@@ -2,9 +2,11 @@ ghost use Rattle.std.specs.Prelude.{◌≡◌, ◌++◌, IfOk, OnOk, OnErr, IsTr
 ghost use Rattle.std.specs.Int.{w64, cast_signed, from_le_bytes};
 ghost use Rattle.std.specs.Str.{is_utf8};
 ghost use Rattle.doc_values.specs.Value.{kind_of, IsStorable};
+ghost use Rattle.row_columns.specs.Lent.{owned};
 ghost use Rattle.document_records.specs.StoredValue.{bytes_of, value_in, AreReadable, ReadsBack, AreToldApart};
 
 use doc_values::{Kind, Utf, Value};
+use row_columns::ValueRef;
 use std::alloc::{AllocError, Global};
 
 /// Puts the bytes of a value behind those that are there.
@@ -78,9 +80,30 @@ fn read_text(alloc: Global, bytes: &[u8]) -> Result<Utf, AllocError>
     requires { IsTrue (is_utf8 bytes.now) }
     ensures ok { IfOk result (λ text. text ≡ bytes.now) }
 {
+    Utf::of(alloc, text_of(bytes))
+}
+
+fn text_of(bytes: &[u8]) -> &str
+    requires { IsTrue (is_utf8 bytes.now) }
+    ensures exact { result.now ≡ bytes.now }
+{
     match str::from_utf8(bytes) {
-        Ok(text) => Utf::of(alloc, text),
+        Ok(text) => text,
         Err(_) => unreachable!(),
+    }
+}
+
+/// The value of a kind that bytes stand for, lent from them.
+pub fn read_lent(kind: Kind, bytes: &[u8]) -> ValueRef<'_>
+    requires { AreReadable kind bytes.now }
+    ensures exact { owned result ≡ value_in kind bytes.now }
+{
+    match kind {
+        Kind::Bool => ValueRef::Bool(bytes[0] == 1),
+        Kind::Int => ValueRef::Int(read_int(bytes)),
+        Kind::Text => ValueRef::Text(text_of(bytes)),
+        Kind::Array => ValueRef::Array(text_of(bytes)),
+        Kind::Object => ValueRef::Object,
     }
 }
 

@@ -3,4 +3,5 @@ pub mod Firsts
 pub mod Sorting
 pub mod Comparing
 pub mod WholeLines
-pub mod LimitFirst
+pub mod AsTheyCome
+mod Unescaped

@@ -12,7 +12,7 @@ use denote.Param.Members.{Mut}
 use Rattle.std.proofs.lemmas.List.Sorted.{ranks_by, sorted_far, IsPermutation-refl, IsPermutation-sym, IsPermutation-cons, IsPermutation-trans, IsPermutation-middle}
 use Rattle.doc_values.specs.Order.{total_order}
 use Rattle.doc_values.proofs.Ordered.{IsTotalOrder-total_order}
-use Rattle.sql_eval.specs.Contents.{Output}
+use Rattle.row_columns.specs.Contents.{Output}
 use Rattle.exec_finish.specs.Order.{first_key, other_keys, key_order, row_order, put_in, ordered}
 
 -- ---- the order of rows is total

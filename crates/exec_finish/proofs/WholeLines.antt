@@ -11,7 +11,7 @@ use Rattle.json.specs.Print.{quoted}
 use Rattle.doc_values.specs.declared.value.Value as value
 use Rattle.doc_values.specs.Doc.{Fields}
 use Rattle.doc_values.specs.Value.{value_text, printed, IsOneLine, HasOneLineArray}
-use Rattle.sql_eval.specs.Contents.{Output}
+use Rattle.row_columns.specs.Contents.{Output}
 use Rattle.exec_finish.specs.Distinct.{is_alike, distinct}
 use Rattle.exec_finish.specs.Order.{row_order, put_in, ordered}
 use Rattle.exec_finish.specs.Answer.{limited, separated, member_text, document_text, line, row_line, ok_line, answer_text, finished}

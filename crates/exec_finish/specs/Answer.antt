@@ -4,7 +4,7 @@ use Rattle.json.specs.Print.{quoted}
 use Rattle.doc_values.specs.declared.value.Value.{Value}
 use Rattle.doc_values.specs.Value.{value_text, printed}
 use Rattle.doc_values.specs.Doc.{Fields}
-use Rattle.sql_eval.specs.Contents.{Output}
+use Rattle.row_columns.specs.Contents.{Output}
 use Rattle.exec_finish.specs.Distinct.{distinct}
 use Rattle.exec_finish.specs.Order.{ordered}
 

@@ -5,7 +5,7 @@ use Rattle.std.specs.Option.{option_eq}
 use Rattle.std.specs.Cmp.Lexicographic.{pointwise}
 use Rattle.doc_values.specs.declared.value.Value.{Value}
 use Rattle.doc_values.specs.Order.{value_order, total_order}
-use Rattle.sql_eval.specs.Contents.{Output}
+use Rattle.row_columns.specs.Contents.{Output}
 
 -- Fields of documents are the same: they have one name, and the order has their values equal.
 abbrev pub is_same_field : (List ℕ × Value) → (List ℕ × Value) → Bool

@@ -2,7 +2,7 @@
 use Rattle.std.specs.Prelude.{ℕ, List, [], ◌++◌, flat_map, Option, Some, None, unwrap_or}
 use Rattle.std.specs.Hash as fed
 use Rattle.doc_values.specs.declared.value.Value as value
-use Rattle.sql_eval.specs.Contents.{Output}
+use Rattle.row_columns.specs.Contents.{Output}
 
 -- The writes for a value, or for NULL.
 abbrev pub value_fed : Option value.Value → List (List ℕ)

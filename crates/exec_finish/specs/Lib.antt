@@ -1,4 +1,5 @@
 pub mod Plain
+pub mod Escapes
 pub mod Distinct
 pub mod Order
 pub mod Answer

@@ -1,7 +1,7 @@
 -- Which answers are whole lines that can be told from the other lines of a printing.
 use Rattle.std.specs.Prelude.{◌≡◌, ◌≢◌, ℕ, List, [], ◌∷◌, Bool, false, ◌||◌, ◌==◌, All, IfSome, flat_map}
 use Rattle.doc_values.specs.Value.{HasOneLineArray}
-use Rattle.sql_eval.specs.Contents.{Output}
+use Rattle.row_columns.specs.Contents.{Output}
 use Rattle.exec_finish.specs.Answer.{line}
 
 -- A mark: `#`, `=`, `.`, `~` or `^`.

@@ -5,7 +5,7 @@ use Rattle.std.specs.declared.cmp.Ordering.{Ordering}
 use Rattle.std.specs.declared.cmp.Ordering.TheVariants.{Equal}
 use Rattle.doc_values.specs.declared.value.Value.{Value}
 use Rattle.doc_values.specs.Order.{total_order}
-use Rattle.sql_eval.specs.Contents.{Output}
+use Rattle.row_columns.specs.Contents.{Output}
 
 -- The first of some keys; NULL where there is none.
 abbrev pub first_key : List (Option Value) → Option Value

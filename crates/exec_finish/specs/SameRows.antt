@@ -9,7 +9,7 @@ use Rattle.doc_values.specs.declared.value.Value.{Value}
 use Rattle.doc_values.specs.Doc.{Fields}
 use Rattle.doc_values.specs.Order.{value_order, total_order}
 use Rattle.doc_values.proofs.Ordered.{IsTotalOrder-total_order, tells_apart}
-use Rattle.sql_eval.specs.Contents.{Output}
+use Rattle.row_columns.specs.Contents.{Output}
 use Rattle.exec_finish.specs.Distinct.{is_same_field, is_alike}
 use Rattle.exec_finish.specs.Fed.{value_fed, field_fed, row_fed}
 

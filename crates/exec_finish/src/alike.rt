@@ -17,7 +17,7 @@ pub(crate) struct Alike {
 }
 
 impl Model for Alike {
-    ghost use Rattle.sql_eval.specs.Contents.{Output};
+    ghost use Rattle.row_columns.specs.Contents.{Output};
 
     ghost Value = { Output };
 

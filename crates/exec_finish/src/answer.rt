@@ -22,7 +22,7 @@ pub(crate) fn answer(alloc: Global, star: bool, rows: &[OutRow]) -> Result<Bytes
     Ok(Bytes::from_vec(text))
 }
 
-fn append_count(alloc: Global, rows: usize, text: &mut Vec<u8>) -> Result<(), AllocError>
+pub(crate) fn append_count(alloc: Global, rows: usize, text: &mut Vec<u8>) -> Result<(), AllocError>
     ensures ok { OnOk result (text.new.items ≡ text.old.items ++ ok_line rows) }
 {
     text.extend_from_slice(format!(in alloc; "ok {rows}\n")?.as_bytes())
@@ -74,7 +74,7 @@ fn append_values(
     Ok(())
 }
 
-fn append_document(
+pub(crate) fn append_document(
     doc: Option<&Doc>,
     scratch: &mut Vec<u8>,
     text: &mut Vec<u8>,

@@ -1,11 +1,11 @@
 // Laws of the definitions, for the crates above.
-ghost use Rattle.std.specs.Prelude.{◌≡◌, ◌↔◌, ℕ, Bool, true, false, List, [], Option, All};
+ghost use Rattle.std.specs.Prelude.{◌≡◌, ◌↔◌, ℕ, Bool, true, List, Option, All};
 ghost use Rattle.std.specs.Ordering.{is_lt};
 ghost use Rattle.std.specs.List.Sorted.{IsPermutation, IsSortedBy, IsStableBy};
-ghost use Rattle.sql_eval.specs.Contents.{Output};
+ghost use Rattle.row_columns.specs.Contents.{Output};
 ghost use Rattle.exec_finish.specs.Distinct.{is_alike};
 ghost use Rattle.exec_finish.specs.Order.{row_order, ordered};
-ghost use Rattle.exec_finish.specs.Answer.{answer_text, finished, limited};
+ghost use Rattle.exec_finish.specs.Answer.{answer_text, finished};
 ghost use Rattle.exec_finish.specs.Lines.{IsLines, HasOneLineValues};
 
 use doc_values::printed_values_are_one_line;
@@ -30,9 +30,4 @@ pub fn sorting_is_stable()
 /// Rows are alike exactly where their items and their documents are equal.
 pub fn rows_alike_are_equal()
     ensures { (r s : Output) → (is_alike r s ≡ true) ↔ ((r.items ≡ s.items) × (r.doc ≡ s.doc)) }
-{}
-
-/// Rows that are neither to be told apart nor to be put in order may be cut to the limit before anything else.
-pub fn a_limit_may_come_first()
-    ensures { (limit : Option ℕ) (star : Bool) (rows : List Output) → finished false [] limit star (limited limit rows) ≡ finished false [] limit star rows }
 {}

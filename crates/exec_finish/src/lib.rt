@@ -7,16 +7,17 @@
 
 mod alike;
 mod answer;
+mod answering;
 mod distinct;
 mod feeding;
 mod finishing;
 mod laws;
+mod lent_text;
 mod likeness;
 mod ordering;
 mod values;
 
 pub use finishing::finish;
-pub use laws::{
-    a_limit_may_come_first, answers_are_lines, rows_alike_are_equal, sorting_is_stable,
-};
+pub use laws::{answers_are_lines, rows_alike_are_equal, sorting_is_stable};
+pub use answering::plain_answer;
 pub use values::plain_values;

@@ -1,10 +1,10 @@
-ghost use Rattle.std.specs.Prelude.{◌≡◌, IfOk, All, map, option_copied, if◌then◌else◌, None};
+ghost use Rattle.std.specs.Prelude.{◌≡◌, IfOk, All, map, if◌then◌else◌, None};
 ghost use Rattle.sql_eval.specs.Resolved.{value_over};
 ghost use Rattle.sql_eval.specs.Widths.{CanEvaluate};
 ghost use Rattle.exec_finish.specs.Plain.{plain_row, document_of};
 
 use doc_values::{Doc, Value};
-use sql_eval::{Expr, KeyPlan, OutRow, Rows, SelectPlan, Tuple, Tuples, eval};
+use sql_eval::{Expr, KeyPlan, OutRow, Rows, SelectPlan, Sides, Tuples, eval};
 use std::alloc::{AllocError, Global};
 
 /// The row of each tuple of a question whose rows are not grouped.
@@ -13,14 +13,18 @@ pub fn plain_values(alloc: Global, plan: &SelectPlan, tuples: &Tuples) -> Result
     requires keys { All (λ tuple. All (λ key. CanEvaluate tuple key.expr) plan.now.keys) tuples.now }
     ensures ok { IfOk result (λ rows. rows ≡ map (plain_row plan.now.star plan.now.items (map (λ key. key.expr) plan.now.keys)) tuples.now) }
 {
-    let mut rows = Vec::with_capacity(alloc, tuples.items().len())?;
-    for tuple in tuples.items() {
-        rows.push(row_of(alloc, plan, tuple)?)?;
+    let mut rows = Vec::with_capacity(alloc, tuples.len())?;
+    for place in 0..tuples.len() {
+        rows.push(row_of(alloc, plan, &tuples.get(place))?)?;
     }
     Ok(Rows::from_vec(rows))
 }
 
-fn row_of(alloc: Global, plan: &SelectPlan, tuple: &Tuple) -> Result<OutRow, AllocError>
+fn row_of<'a>(
+    alloc: Global,
+    plan: &'a SelectPlan,
+    tuple: &Sides<'a>,
+) -> Result<OutRow, AllocError>
     requires items { All (CanEvaluate tuple.now) plan.now.items }
     requires keys { All (λ key. CanEvaluate tuple.now key.expr) plan.now.keys }
     ensures ok { IfOk result (λ row. row ≡ plain_row plan.now.star plan.now.items (map (λ key. key.expr) plan.now.keys) tuple.now) }
@@ -31,7 +35,11 @@ fn row_of(alloc: Global, plan: &SelectPlan, tuple: &Tuple) -> Result<OutRow, All
     Ok(OutRow::new(items, doc, keys))
 }
 
-fn items_of(alloc: Global, items: &[Expr], tuple: &Tuple) -> Result<Vec<Option<Value>>, AllocError>
+fn items_of<'a>(
+    alloc: Global,
+    items: &'a [Expr],
+    tuple: &Sides<'a>,
+) -> Result<Vec<Option<Value>>, AllocError>
     requires { All (CanEvaluate tuple.now) items.now }
     ensures ok { IfOk result (λ values. values.items ≡ map (value_over tuple.now) items.now) }
 {
@@ -42,7 +50,11 @@ fn items_of(alloc: Global, items: &[Expr], tuple: &Tuple) -> Result<Vec<Option<V
     Ok(values)
 }
 
-fn keys_of(alloc: Global, keys: &[KeyPlan], tuple: &Tuple) -> Result<Vec<Option<Value>>, AllocError>
+fn keys_of<'a>(
+    alloc: Global,
+    keys: &'a [KeyPlan],
+    tuple: &Sides<'a>,
+) -> Result<Vec<Option<Value>>, AllocError>
     requires { All (λ key. CanEvaluate tuple.now key.expr) keys.now }
     ensures ok { IfOk result (λ values. values.items ≡ map (value_over tuple.now) (map (λ key. key.expr) keys.now)) }
 {
@@ -54,20 +66,14 @@ fn keys_of(alloc: Global, keys: &[KeyPlan], tuple: &Tuple) -> Result<Vec<Option<
 }
 
 // The tuple's document where whole documents are asked for.
-fn document_of(star: bool, tuple: &Tuple) -> Result<Option<Doc>, AllocError>
+fn document_of(star: bool, tuple: &Sides) -> Result<Option<Doc>, AllocError>
     ensures ok { IfOk result (λ doc. doc ≡ (if star then document_of tuple.now else None)) }
 {
     if !star {
         return Ok(None);
     }
-    match first_document(tuple) {
+    match tuple.doc() {
         Some(doc) => Ok(Some(doc.copy()?)),
         None => Ok(None),
     }
-}
-
-fn first_document(tuple: &Tuple) -> Option<&Doc>
-    ensures exact { option_copied result ≡ document_of tuple.now }
-{
-    tuple.items().first()?.as_ref()?.doc()
 }

@@ -5,7 +5,7 @@ use Rattle.sql_eval.specs.declared.truth_value.Truth.{Truth}
 use Rattle.sql_eval.specs.declared.truth_value.Truth.TheVariants.{True, False, Unknown}
 use Rattle.sql_eval.specs.Truth.{truth_of}
 use Rattle.sql_eval.specs.Resolved.{value_over}
-use Rattle.sql_eval.specs.Contents.{Cells}
+use Rattle.row_columns.specs.Contents.{Cells}
 
 -- A test keeps what it is true of, and not what it is false or unknown of.
 abbrev pub keeps : Truth → Bool

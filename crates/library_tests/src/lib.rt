@@ -1,4 +1,4 @@
-//! Tests of the libraries that programs and tables don't reach: the bytes of records and stored values, devices that fail,
+//! Tests of the libraries that programs and tables don't reach: the bytes of records, devices that fail,
 //! documents and catalogs by their calls, the tokens of a text, the lines of a script.
 //!
 //! It promises nothing. Each library is proved in its own crate; its tests stand here, since a crate with tests is proved
@@ -15,7 +15,5 @@ mod documents;
 mod record_bytes;
 #[cfg(test)]
 mod scripts;
-#[cfg(test)]
-mod stored_values;
 #[cfg(test)]
 mod words;

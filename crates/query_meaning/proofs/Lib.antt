@@ -1,3 +1,2 @@
 pub mod PlansAnswer
 pub mod PlansRun
-pub mod NeededTuples

@@ -14,8 +14,8 @@ use Rattle.sql_tree.specs.declared.term.Term.{Term}
 use Rattle.sql_eval.specs.declared.expr.Expr.{Expr}
 use Rattle.sql_eval.specs.declared.key_plan.KeyPlan.{KeyPlan}
 use Rattle.sql_eval.specs.declared.select_plan.SelectPlan.{SelectPlan}
-use Rattle.sql_eval.specs.Contents.{Cells, Output}
-use Rattle.sql_eval.specs.Sides.{side_at}
+use Rattle.row_columns.specs.Contents.{Cells, Output}
+use Rattle.row_columns.specs.Sides.{side_at}
 use Rattle.sql_eval.specs.Meaning.{given, meaning}
 use Rattle.sql_eval.specs.Resolved.{value_over}
 use Rattle.sql_eval.specs.Resolves.{Resolves, AllResolve, no_terms, more_terms, IsRowOf, HoldsReferences, KeepsMeaning}

@@ -10,7 +10,7 @@ use Rattle.sql_tree.specs.declared.select.Select.{Select}
 use Rattle.sql_eval.specs.declared.expr.Expr.{Expr}
 use Rattle.sql_eval.specs.declared.key_plan.KeyPlan.{KeyPlan}
 use Rattle.sql_eval.specs.declared.select_plan.SelectPlan.{SelectPlan}
-use Rattle.sql_eval.specs.Contents.{Cells}
+use Rattle.row_columns.specs.Contents.{Cells}
 use Rattle.sql_eval.specs.Resolved.{value_over}
 use Rattle.sql_eval.specs.Truth.{truth_of}
 use Rattle.sql_eval.specs.Widths.{width_of, IsStorableTuple, CanEvaluate}

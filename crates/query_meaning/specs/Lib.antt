@@ -1,4 +1,3 @@
 pub mod Question
 pub mod Plans
 pub mod Runs
-pub mod Needed

@@ -4,7 +4,7 @@ use Rattle.std.specs.Option.{option_map_or}
 use Rattle.doc_values.specs.Doc.{Fields}
 use Rattle.doc_values.specs.declared.col_ref.ColRef.{ColRef}
 use Rattle.sql_tree.specs.declared.select.Select.{Select}
-use Rattle.sql_eval.specs.Contents.{Cells, Output}
+use Rattle.row_columns.specs.Contents.{Cells, Output}
 use Rattle.sql_eval.specs.Meaning.{given}
 use Rattle.sql_eval.specs.declared.expr.Expr.{Expr}
 use Rattle.sql_eval.specs.declared.select_plan.SelectPlan.{SelectPlan}

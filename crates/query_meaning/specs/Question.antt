@@ -7,8 +7,8 @@ use Rattle.doc_values.specs.declared.kind.Kind.TheVariants as kind
 use Rattle.doc_values.specs.declared.value.Value.{Value}
 use Rattle.sql_tree.specs.declared.select.Select.{Select}
 use Rattle.sql_tree.specs.declared.term.Term.{Term}
-use Rattle.sql_eval.specs.Contents.{Output}
-use Rattle.sql_eval.specs.Sides.{side_at}
+use Rattle.row_columns.specs.Contents.{Output}
+use Rattle.row_columns.specs.Sides.{side_at}
 use Rattle.sql_eval.specs.Meaning.{meaning}
 use Rattle.sql_eval.specs.Truth.{truth_of}
 use Rattle.type_rules.specs.Places.{scope_of, item_terms, key_terms}

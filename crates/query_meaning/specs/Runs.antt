@@ -1,7 +1,7 @@
 -- Over which rows a plan can be run.
 use Rattle.std.specs.Prelude.{List, All, IfSome}
 use Rattle.doc_values.specs.Value.{IsStorable}
-use Rattle.sql_eval.specs.Contents.{Cells}
+use Rattle.row_columns.specs.Contents.{Cells}
 use Rattle.sql_eval.specs.Widths.{CanEvaluate}
 use Rattle.sql_eval.specs.declared.select_plan.SelectPlan.{SelectPlan}
 use Rattle.query_meaning.specs.Plans.{tuples_over, kept_by}

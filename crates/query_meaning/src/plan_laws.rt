@@ -1,7 +1,7 @@
 ghost use Rattle.std.specs.Prelude.{◌≡◌, All, List};
 ghost use Rattle.doc_values.specs.Doc.{Fields};
 ghost use Rattle.sql_tree.specs.declared.select.Select.{Select};
-ghost use Rattle.sql_eval.specs.Contents.{Cells};
+ghost use Rattle.row_columns.specs.Contents.{Cells};
 ghost use Rattle.sql_eval.specs.declared.select_plan.SelectPlan.{SelectPlan};
 ghost use Rattle.type_rules.specs.Plan.{IsPlanOf};
 ghost use Rattle.type_rules.specs.Runnable.{CanBeRun};

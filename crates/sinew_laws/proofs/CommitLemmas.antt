@@ -1,7 +1,7 @@
 -- What a write leaves, and what readings that agree with commits hold.
 use Rattle.std.proofs.Common.{◌≡◌, ℕ, List, length, take, Some, sym, ap, ◌∙◌}
 use Rattle.sql_tree.specs.declared.select.Select.{Select}
-use Rattle.sql_eval.specs.Contents.{Cells}
+use Rattle.row_columns.specs.Contents.{Cells}
 use Rattle.query_meaning.specs.Plans.{rows_read}
 use Rattle.commit_core.specs.Query.{documents_asked}
 use Rattle.commit_core.specs.Plan.{read, plan_of}

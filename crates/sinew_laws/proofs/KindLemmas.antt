@@ -23,7 +23,7 @@ use Rattle.sql_eval.specs.declared.truth_value.Truth.TheVariants.{True, False, U
 use Rattle.sql_eval.specs.Truth.{value_of, any_of, all_of, denied}
 use Rattle.sql_eval.specs.Operators.{value_of_number, sum_of, product_of}
 use Rattle.sql_eval.specs.Kinds.{own_step, wanted_beside}
-use Rattle.sql_eval.specs.Sides.{side_at}
+use Rattle.row_columns.specs.Sides.{side_at}
 use Rattle.sql_eval.specs.Meaning.{Part, if_wanted, given, table_of, read, truth_in, number_in, comparison_of, means_step, part_step, addend_step, part_of, meaning}
 use Rattle.type_rules.specs.Kinds.{agree, Fitting, all_fit, side_fits, sides_fit, parts_fit, fitting_step, fitting_addend, fitting_of, addend_fits, fits}
 use Rattle.type_rules.proofs.TermFolds.{term-Or, term-And, term-Not, term-Compare, term-Among, term-Between, term-Like, term-Sum, term-Product, term-Minus}

@@ -1,6 +1,6 @@
 -- What a write leaves, and what a reading holds.
 use Rattle.std.specs.Prelude.{◌≡◌, ℕ, List, take, Some}
-use Rattle.sql_eval.specs.Contents.{Cells}
+use Rattle.row_columns.specs.Contents.{Cells}
 use Rattle.commit_core.specs.Plan.{plan_of}
 use Rattle.commit_core.specs.Commits.{IsWrite}
 use Rattle.commit_core.specs.Agreement.{ReadingOf, Agrees, sort_of}

@@ -9,7 +9,7 @@ use Rattle.sql_eval.specs.declared.expr.Expr.{Expr}
 use Rattle.sql_eval.specs.declared.expr.Expr.TheOpen.{Expr-F}
 use Rattle.sql_eval.specs.declared.expr.Expr.TheVariants as expr
 use Rattle.sql_eval.specs.declared.expr.Expr.TheFolds.{fold-roll-Expr, fold_out-Addend}
-use Rattle.sql_eval.specs.Contents.{Cells}
+use Rattle.row_columns.specs.Contents.{Cells}
 use Rattle.sql_eval.specs.Operators.{number_of, signed}
 use Rattle.sql_eval.specs.Resolved.{value_step, added_step, value_over, added_over}
 use Rattle.sql_eval.specs.Widths.{Width, over, width_step, width_of, width_in}

@@ -20,7 +20,7 @@ use Rattle.sql_eval.specs.declared.truth_value.Truth.{Truth}
 use Rattle.sql_eval.specs.declared.truth_value.Truth.TheVariants.{True, False, Unknown}
 use Rattle.sql_eval.specs.Truth.{value_of, denied, any_of, all_of}
 use Rattle.sql_eval.specs.Operators.{value_of_number, sum_of, product_of}
-use Rattle.sql_eval.specs.Sides.{side_at}
+use Rattle.row_columns.specs.Sides.{side_at}
 use Rattle.sql_eval.specs.Meaning.{Part, if_wanted, given, table_of, read, truth_in, number_in, comparison_of, means_step, part_step, addend_step, meaning}
 use Rattle.sql_eval.specs.OneLine.{HaveOneLineArrays}
 

@@ -20,9 +20,9 @@ use Rattle.sql_eval.specs.declared.truth_value.Truth.TheVariants.{True, False, U
 use Rattle.sql_eval.specs.Truth as truths
 use Rattle.sql_eval.specs.Operators as operators
 use Rattle.sql_eval.specs.Kinds.{own_kind, wanted_beside}
-use Rattle.sql_eval.specs.Sides.{side_at}
+use Rattle.row_columns.specs.Sides.{side_at}
 use Rattle.sql_eval.specs.Meaning.{Part, part_of, given, read, truth_in, number_in, comparison_of}
-use Rattle.sql_eval.specs.Contents.{Cells}
+use Rattle.row_columns.specs.Contents.{Cells}
 use Rattle.sql_eval.specs.Resolved.{value_over, added_over, cell_at}
 use Rattle.sql_eval.specs.Resolves.{IsReadAt, beside, among_written, between_written, Resolves, AllResolve, AddendsResolve, number, text, truth, null, column, wanted, disjunction, conjunction, negation, comparison, nullness, among, among_out, between, between_out, likeness, sum, product, minus, no_terms, more_terms, no_addends, more_addends, IsRowOf, HoldsReferences}
 use Rattle.sql_eval.proofs.Expressions.{added_over-is}

@@ -6,7 +6,7 @@ use Rattle.doc_values.specs.declared.value.Value.{Value}
 use Rattle.sql_eval.specs.declared.expr.Expr.{Expr}
 use Rattle.sql_eval.specs.declared.expr.Expr.TheVariants as expr
 use Rattle.sql_eval.specs.declared.truth_value.Truth.{Truth}
-use Rattle.sql_eval.specs.Contents.{Cells}
+use Rattle.row_columns.specs.Contents.{Cells}
 use Rattle.sql_eval.specs.Truth.{value_of, truth_of}
 use Rattle.sql_eval.specs.Resolved.{value_over}
 use Rattle.sql_eval.proofs.Resolving.{truth_of_value}

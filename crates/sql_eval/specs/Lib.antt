@@ -2,9 +2,11 @@ pub mod Truth
 pub mod Like
 pub mod Operators
 pub mod Kinds
-pub mod Sides
+pub use Rattle.row_columns.specs.Sides
 pub mod Meaning
-pub mod Contents
+pub use Rattle.row_columns.specs.Contents
+pub use Rattle.row_columns.specs.Lent
+pub use Rattle.row_columns.specs.Placed
 pub mod Resolved
 pub mod Widths
 pub mod Run

@@ -17,7 +17,7 @@ use Rattle.sql_tree.specs.declared.term.Term.TheFolds.{fold-Term}
 use Rattle.sql_eval.specs.declared.truth_value.Truth.{Truth}
 use Rattle.sql_eval.specs.Truth.{denied, both, all_of, any_of, unless, value_of, truth_of}
 use Rattle.sql_eval.specs.Operators.{number_of, value_of_number, signed, sum_of, product_of, comparison, likeness, nullness}
-use Rattle.sql_eval.specs.Sides.{side_at}
+use Rattle.row_columns.specs.Sides.{side_at}
 use Rattle.sql_eval.specs.Kinds.{own_step, wanted_beside}
 
 -- A value where a kind is wanted, or none: one of another kind is NULL there.

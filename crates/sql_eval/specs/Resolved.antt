@@ -4,14 +4,13 @@ use Rattle.doc_values.specs.declared.compare_op.CompareOp.TheVariants as compare
 use Rattle.doc_values.specs.declared.value.Value as value
 use Rattle.sql_eval.specs.declared.addend.Addend.{Addend}
 use Rattle.sql_eval.specs.declared.slot.Slot.{Slot}
-use Rattle.sql_eval.specs.declared.value_ref.ValueRef as value_ref
 use Rattle.sql_eval.specs.declared.expr.Expr.{Expr}
 use Rattle.sql_eval.specs.declared.expr.Expr.TheOpen.{Expr-F, Addend-F}
 use Rattle.sql_eval.specs.declared.expr.Expr.TheFolds.{fold-Expr, fold-Addend}
 use Rattle.sql_eval.specs.Truth.{denied, both, all_of, any_of, unless, value_of, truth_of}
 use Rattle.sql_eval.specs.Operators.{number_of, value_of_number, signed, sum_of, product_of, comparison, likeness, nullness}
-use Rattle.sql_eval.specs.Contents.{Cells}
-use Rattle.sql_eval.specs.Sides.{side_at}
+use Rattle.row_columns.specs.Contents.{Cells}
+use Rattle.row_columns.specs.Sides.{side_at}
 
 -- What a slot gives: the cell of its column on its table's side, and NULL where there is none.
 abbrev pub cell_at : List (Option Cells) → Slot → Option value.Value
@@ -51,11 +50,3 @@ value_over tuple = fold-Expr (Option value.Value) (Option ℤ) (value_step tuple
 -- What a member of a sum adds.
 abbrev pub added_over : List (Option Cells) → Addend → Option ℤ
 added_over tuple = fold-Addend (Option value.Value) (Option ℤ) (value_step tuple) added_step
-
--- A value that is lent, as a value.
-abbrev pub owned : value_ref.ValueRef → value.Value
-owned (value_ref.TheVariants.Bool b) = value.TheVariants.Bool b
-owned (value_ref.TheVariants.Int n) = value.TheVariants.Int n
-owned (value_ref.TheVariants.Text text) = value.TheVariants.Text text.now
-owned (value_ref.TheVariants.Array text) = value.TheVariants.Array text.now
-owned value_ref.TheVariants.Object = value.TheVariants.Object

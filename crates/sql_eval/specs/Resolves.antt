@@ -15,9 +15,9 @@ use Rattle.sql_eval.specs.declared.addend.Addend.{Addend}
 use Rattle.sql_eval.specs.declared.expr.Expr.{Expr}
 use Rattle.sql_eval.specs.declared.expr.Expr.TheVariants as expr
 use Rattle.sql_eval.specs.Kinds.{own_kind, wanted_beside}
-use Rattle.sql_eval.specs.Sides.{side_at}
+use Rattle.row_columns.specs.Sides.{side_at}
 use Rattle.sql_eval.specs.Meaning.{given, table_of, meaning}
-use Rattle.sql_eval.specs.Contents.{Cells}
+use Rattle.row_columns.specs.Contents.{Cells}
 use Rattle.sql_eval.specs.Resolved.{value_over}
 
 -- A reference is read at a slot: the place of its table, and there that of a column with its name and the kind that is wanted, or none.

@@ -9,7 +9,7 @@ use Rattle.sql_eval.specs.declared.addend.Addend.{Addend}
 use Rattle.sql_eval.specs.declared.expr.Expr.{Expr}
 use Rattle.sql_eval.specs.declared.expr.Expr.TheOpen.{Expr-F}
 use Rattle.sql_eval.specs.declared.expr.Expr.TheFolds.{fold-Expr, fold-Addend}
-use Rattle.sql_eval.specs.Contents.{Cells}
+use Rattle.row_columns.specs.Contents.{Cells}
 use Rattle.sql_eval.specs.Resolved.{cell_at}
 
 -- A number that an expression gives is at most 2 to its bits, up and down. The expression is narrow if no number that is computed on the way needs more than 126 bits, and no numeral in it is above 2 to the 63.

@@ -6,12 +6,16 @@ ghost use Rattle.sql_eval.specs.Widths.{width_of, is_plain, IsStorableTuple};
 use crate::expr::Expr;
 use crate::lending::{truth_over, value};
 use crate::truth_value::Truth;
-use crate::tuple::Tuple;
 use doc_values::Value;
+use row_columns::Sides;
 use std::alloc::{AllocError, Global};
 
 /// The value of an expression over a tuple; none is NULL. Numbers and truth values take no memory.
-pub fn eval(alloc: Global, expr: &Expr, tuple: &Tuple) -> Result<Option<Value>, AllocError>
+pub fn eval<'a>(
+    alloc: Global,
+    expr: &'a Expr,
+    tuple: &Sides<'a>,
+) -> Result<Option<Value>, AllocError>
     requires plain { is_plain expr.now ≡ true }
     requires narrow { (width_of (length tuple.now) expr.now).narrow ≡ true }
     requires stored { IsStorableTuple tuple.now }
@@ -24,11 +28,11 @@ pub fn eval(alloc: Global, expr: &Expr, tuple: &Tuple) -> Result<Option<Value>, 
 }
 
 /// The truth of an expression over a tuple.
-pub fn truth(_alloc: Global, expr: &Expr, tuple: &Tuple) -> Result<Truth, AllocError>
+pub fn truth<'a>(expr: &'a Expr, tuple: &Sides<'a>) -> Truth
     requires plain { is_plain expr.now ≡ true }
     requires narrow { (width_of (length tuple.now) expr.now).narrow ≡ true }
     requires stored { IsStorableTuple tuple.now }
-    ensures ok { IfOk result (λ truth. truth ≡ truth_of (value_over tuple.now expr.now)) }
+    ensures exact { result ≡ truth_of (value_over tuple.now expr.now) }
 {
-    Ok(truth_over(expr, tuple))
+    truth_over(expr, tuple)
 }

@@ -1,23 +1,23 @@
 ghost use Rattle.std.specs.Prelude.{◌≡◌, ◌≤◌, length, true, map, sum, option_map, IfSome};
 ghost use Rattle.sql_eval.specs.Truth.{any_of, all_of, truth_of};
 ghost use Rattle.sql_eval.specs.Operators.{number_of, sum_of, product_of, comparison};
-ghost use Rattle.sql_eval.specs.Resolved.{owned, value_over, added_over};
+ghost use Rattle.row_columns.specs.Lent.{owned};
+ghost use Rattle.sql_eval.specs.Resolved.{value_over, added_over};
 ghost use Rattle.sql_eval.specs.Widths.{width_of, width_in, are_narrow, addends_are_narrow, bits_of, sum_bits, IsStorableTuple};
 ghost use Rattle.sql_eval.specs.Within.{IsWithin, IsNumberWithin};
-ghost use Rattle.sql_eval.specs.declared.value_ref.ValueRef as value_ref;
+ghost use Rattle.row_columns.specs.declared.value_ref.ValueRef as value_ref;
 
 use crate::addend::Addend;
 use crate::arithmetic::{negative, plus, times};
 use crate::expr::Expr;
 use crate::operators::{comparison, likeness, nullness};
 use crate::truth_value::Truth;
-use crate::tuple::Tuple;
-use crate::value_ref::ValueRef;
+use row_columns::{Sides, ValueRef};
 use doc_values::CompareOp;
 
 // The value of an expression over a tuple, lent; none is NULL.
 #[cycle(lending)]
-pub(crate) fn value<'a>(expr: &'a Expr, tuple: &'a Tuple) -> Option<ValueRef<'a>>
+pub fn value<'a>(expr: &'a Expr, tuple: &Sides<'a>) -> Option<ValueRef<'a>>
     requires narrow { (width_of (length tuple.now) expr.now).narrow ≡ true }
     requires stored { IsStorableTuple tuple.now }
     ensures exact { option_map owned result ≡ value_over tuple.now expr.now }
@@ -27,8 +27,8 @@ pub(crate) fn value<'a>(expr: &'a Expr, tuple: &'a Tuple) -> Option<ValueRef<'a>
         Expr::Number(n) => Some(ValueRef::Int(i128::from(*n))),
         Expr::Text(text) => Some(ValueRef::Text(text.text())),
         Expr::Bool(b) => Some(ValueRef::Bool(*b)),
-        Expr::Column(slot) => tuple.cell(*slot),
-        Expr::Wanted { column, .. } => tuple.cell(*column),
+        Expr::Column(slot) => tuple.cell(slot.table, slot.column),
+        Expr::Wanted { column, .. } => tuple.cell(column.table, column.column),
         Expr::Sum(addends) => Some(ValueRef::Int(sum(addends.as_slice(), tuple)?)),
         Expr::Product(members) => Some(ValueRef::Int(product(members.as_slice(), tuple)?)),
         Expr::Minus(arg) => Some(ValueRef::Int(negative(number(arg.get(), tuple)?))),
@@ -46,15 +46,15 @@ pub(crate) fn value<'a>(expr: &'a Expr, tuple: &'a Tuple) -> Option<ValueRef<'a>
 
 // The truth of an expression over a tuple.
 #[cycle(lending)]
-pub(crate) fn truth_over(expr: &Expr, tuple: &Tuple) -> Truth
+pub(crate) fn truth_over<'a>(expr: &'a Expr, tuple: &Sides<'a>) -> Truth
     requires narrow { (width_of (length tuple.now) expr.now).narrow ≡ true }
     requires stored { IsStorableTuple tuple.now }
     ensures exact { result ≡ truth_of (value_over tuple.now expr.now) }
 {
     match expr {
         Expr::Bool(b) => Truth::of(Some(*b)),
-        Expr::Column(slot) => Truth::of_value(tuple.cell(*slot)),
-        Expr::Wanted { column, .. } => Truth::of_value(tuple.cell(*column)),
+        Expr::Column(slot) => Truth::of_value(tuple.cell(slot.table, slot.column)),
+        Expr::Wanted { column, .. } => Truth::of_value(tuple.cell(column.table, column.column)),
         Expr::Or(members) => any(members.as_slice(), tuple),
         Expr::And(members) => all(members.as_slice(), tuple),
         Expr::Not(arg) => truth_over(arg.get(), tuple).not(),
@@ -89,7 +89,7 @@ pub(crate) fn truth_over(expr: &Expr, tuple: &Tuple) -> Truth
 
 // OR of the members.
 #[cycle(lending)]
-fn any(members: &[Expr], tuple: &Tuple) -> Truth
+fn any<'a>(members: &'a [Expr], tuple: &Sides<'a>) -> Truth
     requires narrow { are_narrow (length tuple.now) members.now ≡ true }
     requires stored { IsStorableTuple tuple.now }
     ensures exact { result ≡ any_of (map truth_of (map (value_over tuple.now) members.now)) }
@@ -106,7 +106,7 @@ fn any(members: &[Expr], tuple: &Tuple) -> Truth
 
 // AND of the members.
 #[cycle(lending)]
-fn all(members: &[Expr], tuple: &Tuple) -> Truth
+fn all<'a>(members: &'a [Expr], tuple: &Sides<'a>) -> Truth
     requires narrow { are_narrow (length tuple.now) members.now ≡ true }
     requires stored { IsStorableTuple tuple.now }
     ensures exact { result ≡ all_of (map truth_of (map (value_over tuple.now) members.now)) }
@@ -123,7 +123,7 @@ fn all(members: &[Expr], tuple: &Tuple) -> Truth
 
 // Whether a value equals one of the members.
 #[cycle(lending)]
-fn among(arg: Option<ValueRef>, members: &[Expr], tuple: &Tuple) -> Truth
+fn among<'a>(arg: Option<ValueRef<'a>>, members: &'a [Expr], tuple: &Sides<'a>) -> Truth
     requires narrow { are_narrow (length tuple.now) members.now ≡ true }
     requires stored { IsStorableTuple tuple.now }
     ensures exact { result ≡ any_of (map (comparison CompareOp.Eq (option_map owned arg.entry)) (map (value_over tuple.now) members.now)) }
@@ -140,7 +140,7 @@ fn among(arg: Option<ValueRef>, members: &[Expr], tuple: &Tuple) -> Truth
 
 // The number that an expression gives, if it gives one.
 #[cycle(lending)]
-fn number(expr: &Expr, tuple: &Tuple) -> Option<i128>
+fn number<'a>(expr: &'a Expr, tuple: &Sides<'a>) -> Option<i128>
     requires narrow { (width_of (length tuple.now) expr.now).narrow ≡ true }
     requires stored { IsStorableTuple tuple.now }
     ensures exact { result ≡ number_of (value_over tuple.now expr.now) }
@@ -154,7 +154,7 @@ fn number(expr: &Expr, tuple: &Tuple) -> Option<i128>
 
 // The sum of the members, if each is a number.
 #[cycle(lending)]
-fn sum(addends: &[Addend], tuple: &Tuple) -> Option<i128>
+fn sum<'a>(addends: &'a [Addend], tuple: &Sides<'a>) -> Option<i128>
     requires narrow { addends_are_narrow (length tuple.now) addends.now ≡ true }
     requires few { sum_bits (bits_of (map (width_in (length tuple.now)) addends.now)) ≤ 126 }
     requires stored { IsStorableTuple tuple.now }
@@ -170,7 +170,7 @@ fn sum(addends: &[Addend], tuple: &Tuple) -> Option<i128>
 
 // The product of the members, if each is a number.
 #[cycle(lending)]
-fn product(members: &[Expr], tuple: &Tuple) -> Option<i128>
+fn product<'a>(members: &'a [Expr], tuple: &Sides<'a>) -> Option<i128>
     requires narrow { are_narrow (length tuple.now) members.now ≡ true }
     requires few { sum (bits_of (map (width_of (length tuple.now)) members.now)) ≤ 126 }
     requires stored { IsStorableTuple tuple.now }

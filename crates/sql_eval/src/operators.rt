@@ -2,11 +2,11 @@ ghost use Rattle.std.specs.Prelude.{◌≡◌, option_map};
 ghost use Rattle.doc_values.specs.Order.{compared};
 ghost use Rattle.sql_eval.specs.Operators.{comparison, likeness, nullness};
 ghost use Rattle.sql_eval.specs.Truth.{truth_of};
-ghost use Rattle.sql_eval.specs.Resolved.{owned};
+ghost use Rattle.row_columns.specs.Lent.{owned};
 
 use crate::pattern::like;
 use crate::truth_value::Truth;
-use crate::value_ref::ValueRef;
+use row_columns::ValueRef;
 use doc_values::CompareOp;
 use std::cmp::Ordering;
 

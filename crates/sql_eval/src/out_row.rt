@@ -1,5 +1,5 @@
 ghost use Rattle.std.specs.Prelude.{◌≡◌, option_copied};
-ghost use Rattle.sql_eval.specs.Contents.{Output};
+ghost use Rattle.row_columns.specs.Contents.{Output};
 
 use doc_values::{Doc, Value};
 use std::marker::Model;
@@ -13,7 +13,7 @@ pub struct OutRow {
 }
 
 impl Model for OutRow {
-    ghost use Rattle.sql_eval.specs.Contents.{Output};
+    ghost use Rattle.row_columns.specs.Contents.{Output};
 
     ghost Value = { Output };
 

@@ -11,7 +11,7 @@ pub struct Rows {
 
 impl Model for Rows {
     ghost use Rattle.std.specs.Prelude.{List};
-    ghost use Rattle.sql_eval.specs.Contents.{Output};
+    ghost use Rattle.row_columns.specs.Contents.{Output};
 
     ghost Value = { List Output };
 

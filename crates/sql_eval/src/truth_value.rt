@@ -1,6 +1,6 @@
 ghost use Rattle.std.specs.Prelude.{◌≡◌, option_map};
 
-use crate::value_ref::ValueRef;
+use row_columns::ValueRef;
 
 /// The three truth values; unknown is the NULL among them.
 #[derive(Clone, Copy, Debug, PartialEq, Eq)]
@@ -12,7 +12,7 @@ pub enum Truth {
 
 impl Truth {
     ghost use Rattle.sql_eval.specs.Truth.{denied, both, either, unless, value_of, tested, truth_of};
-    ghost use Rattle.sql_eval.specs.Resolved.{owned};
+    ghost use Rattle.row_columns.specs.Lent.{owned};
 
     /// The truth of a test, unknown where it could not be made.
     pub fn of(test: Option<bool>) -> Truth

@@ -1,11 +1,25 @@
-use Rattle.std.proofs.Common.{length, sym, subst}
-use Rattle.std.proofs.lemmas.Iterator.Adapters.{YieldsList-from_vec}
-use Rattle.std.proofs.lemmas.Iterator.Consumers.{YieldsList-turn}
+use Rattle.std.proofs.Common.{◌∙◌, List, Option, sym, ap, map, take, subst}
+use Rattle.std.specs.Prelude.{All, filter}
+use Rattle.row_columns.specs.Contents.{Cells}
+use Rattle.row_columns.specs.Placed.{tuple_at}
+use Rattle.sql_eval.specs.Resolved.{value_over}
+use Rattle.sql_eval.specs.Truth.{truth_of}
 use Rattle.sql_eval.specs.Widths.{CanEvaluate}
+use Rattle.exec_join.specs.Filter.{keeps}
+use Rattle.exec_join.proofs.InPlace.{filter_made, all_made}
 use Rattle.exec_join.proofs.filtering.filter.Goals as goal
 
-pub truth-requires : goal.truth-requires
-truth-requires c =
-    let turn = YieldsList-turn (YieldsList-from_vec {s = c.into_iter-tuple-iterator.result} c.args.tuples (cc) (cc)) c.loop-tuple.yielded c.loop-tuple.tuple-iterator c.loop-tuple.yielded_by c.next.result c.next.new.self c.in-Some.tuple c.in-Some.is c.next.ensures.steps in
-    let can = subst (λ tuple. CanEvaluate tuple c.args.test.now) (sym turn.1) (c.requires (length c.loop-tuple.yielded) c.in-Some.tuple turn.0) in
-    record { plain = can.plain; narrow = can.narrow; stored = can.stored }
+pub keep-requires : goal.keep-requires
+keep-requires c =
+    let test = c.args.test.now in
+    rw c.deref.ensures.value
+    (all_made (tuple_at c.into_parts-tables.result.0.items) (λ t. CanEvaluate t test) c.into_parts-tables.result.1.items (subst (All (λ t. CanEvaluate t test)) c.into_parts-tables.ensures.exact c.requires))
+
+pub returns : goal.returns
+returns c =
+    let test = c.args.test.now in
+    let tables = c.into_parts-tables.result.0.items in
+    let places = c.into_parts-tables.result.1.items in
+    let passes = λ (t : List (Option Cells)). keeps (truth_of (value_over t test)) in
+    let kept = rw c.deref.ensures.value at c.keep.ensures.exact in
+    record { exact = c.new.ensures.exact ∙ ap (map (tuple_at tables)) kept ∙ sym (filter_made (tuple_at tables) passes places) ∙ ap (filter passes) (sym c.into_parts-tables.ensures.exact) }

@@ -2,7 +2,8 @@ use Rattle.std.proofs.Common.{◌≡◌, ℕ, ◌+◌, ◌+ℤ◌, ◌*ℤ◌, t
 use Rattle.doc_values.specs.declared.compare_op.CompareOp.TheVariants as compare_op
 use Rattle.sql_eval.specs.Truth.{both, either, all_of, any_of, truth_of}
 use Rattle.sql_eval.specs.Operators.{number_of, sum_of, product_of, comparison}
-use Rattle.sql_eval.specs.Resolved.{owned, value_over, added_over}
+use Rattle.row_columns.specs.Lent.{owned}
+use Rattle.sql_eval.specs.Resolved.{value_over, added_over}
 use Rattle.sql_eval.specs.Widths.{width_of, width_in, are_narrow, addends_are_narrow, bits_of, sum_bits}
 use Rattle.sql_eval.specs.Within.{IsNumberWithin}
 use Rattle.sql_eval.proofs.Numbers.{IsTotal, bits_after}

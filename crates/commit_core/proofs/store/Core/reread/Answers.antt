@@ -13,4 +13,4 @@ pub returns-clause-ok : goal.returns-clause-ok
 returns-clause-ok c =
     let asked = c.plan.ensures.exact in
     rw (c.fill.ensures.exact, c.now.ensures.exact)
-    (Agrees-all c.args.reading.now.text asked.question c.args.self.now c.in_ok-rows.rows.items asked.planned (c.in_ok-rows.ensures.ok (plan_of c.args.reading.now.text) asked))
+    (Agrees-all c.args.reading.now.text asked.question c.args.self.now c.in_ok-rows.rows asked.planned (c.in_ok-rows.ensures.ok (plan_of c.args.reading.now.text) asked))

@@ -1,0 +1,30 @@
+ghost use Rattle.std.specs.Prelude.{◌≡◌, option_map};
+ghost use Rattle.row_columns.specs.Lent.{owned};
+ghost use Rattle.row_columns.specs.Column.{text_at, IsSpan, cell_in, IsCellIn};
+
+use crate::cell::Cell;
+use crate::span::Span;
+use crate::value_ref::ValueRef;
+
+// The value of a cell, lent.
+pub(crate) fn lent<'a>(texts: &'a str, wides: &[i128], cell: Cell) -> Option<ValueRef<'a>>
+    requires { IsCellIn texts.now wides.now cell }
+    ensures exact { option_map owned result ≡ cell_in texts.now wides.now cell }
+{
+    match cell {
+        Cell::Null => None,
+        Cell::Bool(b) => Some(ValueRef::Bool(b)),
+        Cell::Number(n) => Some(ValueRef::Int(i128::from(n))),
+        Cell::Wide(place) => Some(ValueRef::Int(wides[place as usize])),
+        Cell::Text(span) => Some(ValueRef::Text(text(texts, span))),
+        Cell::Array(span) => Some(ValueRef::Array(text(texts, span))),
+        Cell::Object => Some(ValueRef::Object),
+    }
+}
+
+fn text(texts: &str, span: Span) -> &str
+    requires { IsSpan texts.now span }
+    ensures exact { result.now ≡ text_at texts.now span }
+{
+    &texts[span.start as usize..span.end as usize]
+}
