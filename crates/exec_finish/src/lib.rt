@@ -17,7 +17,7 @@ mod likeness;
 mod ordering;
 mod values;
 
+pub use answering::plain_answer;
 pub use finishing::finish;
 pub use laws::{answers_are_lines, rows_alike_are_equal, sorting_is_stable};
-pub use answering::plain_answer;
 pub use values::plain_values;
