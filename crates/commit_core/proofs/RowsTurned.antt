@@ -50,6 +50,7 @@ module _ {A P : Type 0} (given : A → P → Option Value) (document : A → Fie
     where
       plain : k + 0 ≡ k
       plain = omega arith
+
       moved : (j : ℕ) → (k + 1) + j ≡ k + suc j
       moved j = omega arith
 

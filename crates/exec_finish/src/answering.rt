@@ -15,11 +15,7 @@ use std::alloc::{AllocError, Global};
 
 /// The answer to a question whose rows are not grouped, over its tuples: that of `finish` over the rows of
 /// `plain_values`. Where rows are neither told apart nor put in order none is made: what is printed is lent.
-pub fn plain_answer(
-    alloc: Global,
-    plan: &SelectPlan,
-    tuples: &Tuples,
-) -> Result<Bytes, AllocError>
+pub fn plain_answer(alloc: Global, plan: &SelectPlan, tuples: &Tuples) -> Result<Bytes, AllocError>
     requires items { All (λ tuple. All (CanEvaluate tuple) plan.now.items) tuples.now }
     requires keys { All (λ tuple. All (λ key. CanEvaluate tuple key.expr) plan.now.keys) tuples.now }
     ensures ok { IfOk result (λ text. text ≡ finished plan.now.distinct (map (λ key. key.descending) plan.now.keys) plan.now.limit plan.now.star (map (row_by plan.now) tuples.now)) }

@@ -48,11 +48,7 @@ fn append_short(number: i64, text: &mut Vec<u8>) -> Result<(), AllocError>
 }
 
 // Most texts hold no byte that is escaped, and are copied as they are.
-fn append_text(
-    string: &str,
-    scratch: &mut Vec<u8>,
-    text: &mut Vec<u8>,
-) -> Result<(), AllocError>
+fn append_text(string: &str, scratch: &mut Vec<u8>, text: &mut Vec<u8>) -> Result<(), AllocError>
     ensures ok { OnOk result (text.new.items ≡ text.old.items ++ quoted string.now) }
 {
     if stand_for_themselves(string.as_bytes()) {
@@ -74,11 +70,7 @@ fn append_plain(string: &str, text: &mut Vec<u8>) -> Result<(), AllocError>
 
 // The text is made in a scratch buffer that is empty before: a writer fills room ahead of what it writes, the more the
 // longer the text is that it goes on from.
-fn append_escaped(
-    string: &str,
-    scratch: &mut Vec<u8>,
-    text: &mut Vec<u8>,
-) -> Result<(), AllocError>
+fn append_escaped(string: &str, scratch: &mut Vec<u8>, text: &mut Vec<u8>) -> Result<(), AllocError>
     ensures ok { OnOk result (text.new.items ≡ text.old.items ++ quoted string.now) }
 {
     scratch.clear();

@@ -15,12 +15,11 @@ mod laws;
 mod lent_text;
 mod likeness;
 mod ordering;
-
 #[cfg(test)]
 mod tests;
 mod values;
 
+pub use answering::plain_answer;
 pub use finishing::finish;
 pub use laws::{answers_are_lines, rows_alike_are_equal, sorting_is_stable};
-pub use answering::plain_answer;
 pub use values::plain_values;

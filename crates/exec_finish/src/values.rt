@@ -20,11 +20,7 @@ pub fn plain_values(alloc: Global, plan: &SelectPlan, tuples: &Tuples) -> Result
     Ok(Rows::from_vec(rows))
 }
 
-fn row_of<'a>(
-    alloc: Global,
-    plan: &'a SelectPlan,
-    tuple: &Sides<'a>,
-) -> Result<OutRow, AllocError>
+fn row_of<'a>(alloc: Global, plan: &'a SelectPlan, tuple: &Sides<'a>) -> Result<OutRow, AllocError>
     requires items { All (CanEvaluate tuple.now) plan.now.items }
     requires keys { All (λ key. CanEvaluate tuple.now key.expr) plan.now.keys }
     ensures ok { IfOk result (λ row. row ≡ plain_row plan.now.star plan.now.items (map (λ key. key.expr) plan.now.keys) tuple.now) }

@@ -91,6 +91,7 @@ alone_from table (r ∷ rs) a (suc n) same e =
   where
     plain : a + 0 ≡ a
     plain = omega arith
+
     moved : (k : ℕ) → (a + 1) + k ≡ a + suc k
     moved k = omega arith
 

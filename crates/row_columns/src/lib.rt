@@ -13,6 +13,8 @@ mod place;
 mod sides;
 mod span;
 mod table_rows;
+#[cfg(test)]
+mod tests;
 mod tuples;
 mod value_ref;
 

@@ -35,7 +35,11 @@ impl<'a> ColumnTest<'a> {
     pub fn truth(self, tuple: &Sides<'a>) -> Truth
         ensures exact { result ≡ comparison self.entry.op (cell_at tuple.now self.entry.slot) (Some (owned self.entry.literal)) }
     {
-        comparison(self.op, tuple.cell(self.slot.table, self.slot.column), Some(self.literal))
+        comparison(
+            self.op,
+            tuple.cell(self.slot.table, self.slot.column),
+            Some(self.literal),
+        )
     }
 }
 

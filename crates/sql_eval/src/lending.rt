@@ -12,8 +12,8 @@ use crate::arithmetic::{negative, plus, times};
 use crate::expr::Expr;
 use crate::operators::{comparison, likeness, nullness};
 use crate::truth_value::Truth;
-use row_columns::{Sides, ValueRef};
 use doc_values::CompareOp;
+use row_columns::{Sides, ValueRef};
 
 // The value of an expression over a tuple, lent; none is NULL.
 #[cycle(lending)]

@@ -6,8 +6,8 @@ ghost use Rattle.row_columns.specs.Lent.{owned};
 
 use crate::pattern::like;
 use crate::truth_value::Truth;
-use row_columns::ValueRef;
 use doc_values::CompareOp;
+use row_columns::ValueRef;
 use std::cmp::Ordering;
 
 // A comparison, unknown where a side is NULL or the kinds differ.
