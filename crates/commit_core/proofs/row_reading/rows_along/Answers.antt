@@ -1,5 +1,7 @@
-use Rattle.commit_core.specs.StoredRow.{cell_along}
+use Rattle.std.proofs.Common.{◌≡◌, ◌∙◌, length, rules}
+use Rattle.row_columns.specs.Placed.{rows_of}
 use Rattle.document_records.specs.StoredDocument.{pairs_of, document_stored}
+use Rattle.commit_core.specs.StoredRow.{cell_along}
 use Rattle.commit_core.proofs.StoredRows.{all_readable}
 use Rattle.commit_core.proofs.RowsTurned.{turned}
 use Rattle.commit_core.proofs.row_reading.rows_along.Goals as goal
@@ -9,4 +11,9 @@ columns_along-requires c = all_readable c.records_are_their_documents.ensures.la
 
 pub returns : goal.returns
 returns c =
-    record { ok = rw (c.in_ok-columns.ensures.ok, c.in_ok-documents.ensures.ok) (turned cell_along (document_stored (pairs_of c.args.catalog.now)) c.args.whole c.args.paths.now c.args.records.now c.in-Ok.count ?) }
+    let counted : c.in-Ok.count ≡ length c.args.records.now = search rules in
+    record {
+      ok = c.new.ensures.exact
+          ∙ (λ i. rows_of c.in-Ok.count (c.in_ok-columns.ensures.ok i) (c.in_ok-documents.ensures.ok i))
+          ∙ turned cell_along (document_stored (pairs_of c.args.catalog.now)) c.args.whole c.args.paths.now c.args.records.now c.in-Ok.count counted;
+    }

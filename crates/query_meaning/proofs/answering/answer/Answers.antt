@@ -1,7 +1,7 @@
 use Rattle.query_meaning.proofs.answering.answer.Goals as goal
 
-pub kept-requires : goal.kept-requires
-kept-requires c = rw c.in_ok-tuples.ensures.ok c.requires.test
+pub kept-kept-requires : goal.kept-kept-requires
+kept-kept-requires c = rw c.in_ok-tuples.ensures.ok c.requires.test
 
 pub plain_answer-requires-clause-items : goal.plain_answer-requires-clause-items
 plain_answer-requires-clause-items c = rw (c.kept-kept.ensures.exact, c.in_ok-tuples.ensures.ok) c.requires.items
