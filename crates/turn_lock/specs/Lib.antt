@@ -1,0 +1,4 @@
+pub mod Pass
+pub mod Rule
+pub mod Views
+pub mod Steps
