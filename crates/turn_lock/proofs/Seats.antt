@@ -23,6 +23,28 @@ each_set {V} P views i w mine others j v at =
         (λ (t : (j ≢ i) × (get_elem? views j ≡ some v)). others j v t.0 t.1)
         (at_set views i j w v at)
 
+-- the roles differ, and so does a seat with one from a seat with another
+pub own_noted : own ≢ noted
+own_noted e = cc
+
+pub returned_noted : returned ≢ noted
+returned_noted e = cc
+
+pub noted_own : noted ≢ own
+noted_own e = cc
+
+pub returned_own : returned ≢ own
+returned_own e = cc
+
+abbrev pub as_role : ℕ → Role → ℕ × Role
+as_role seat role = (seat, role)
+
+pub apart_as : (i : ℕ) (a b : Role) → a ≢ b → as_role i a ≢ as_role i b
+apart_as i a b apart e = apart (ap (λ (o : ℕ × Role). o.1) e)
+
+pub apart_at : (j i : ℕ) (a b : Role) → j ≢ i → as_role j a ≢ as_role i b
+apart_at j i a b apart e = apart (ap (λ (o : ℕ × Role). o.0) e)
+
 pub ticket_most : (stage : Stage) → has_ticket stage ≤ 1
 ticket_most Founds = omega arith
 ticket_most Idle = omega arith
@@ -117,7 +139,7 @@ module _ {E : Type 0} where
   stands_on now after bare seat seen out served log on (Holds t) k = (on t k.0, k.1 ∙ served, sym out ∙ k.2, k.3 ∙ log)
 
 module _ {E : Type 0} (by : E → ℕ) where
-  noted_on : (now after : Course E) (seat : ℕ) → ((role : Role) (c : ℕ) (es : List E) → IsHeld by now seat role c es → IsHeld by after seat role c es)
+  pub noted_on : (now after : Course E) (seat : ℕ) → ((role : Role) (c : ℕ) (es : List E) → IsHeld by now seat role c es → IsHeld by after seat role c es)
       → (drawn : Option ℕ) → IfSome drawn (λ n. IsHeld by now seat noted n []) → IfSome drawn (λ n. IsHeld by after seat noted n [])
   noted_on now after seat held None k = tt
   noted_on now after seat held (Some n) k = held noted n [] k
