@@ -1,3 +1,4 @@
 pub mod Lists
 pub mod Seats
 pub mod Numbers
+pub mod Turns
