@@ -139,10 +139,14 @@ module _ {E : Type 0} where
   stands_on now after bare seat seen out served log on (Holds t) k = (on t k.0, k.1 ∙ served, sym out ∙ k.2, k.3 ∙ log)
 
 module _ {E : Type 0} (by : E → ℕ) where
+  pub noted_at : (now after : Course E) (seat : ℕ) → ((c : ℕ) (es : List E) → IsHeld by now seat noted c es → IsHeld by after seat noted c es)
+      → (drawn : Option ℕ) → IfSome drawn (λ n. IsHeld by now seat noted n []) → IfSome drawn (λ n. IsHeld by after seat noted n [])
+  noted_at now after seat held None k = tt
+  noted_at now after seat held (Some n) k = held n [] k
+
   pub noted_on : (now after : Course E) (seat : ℕ) → ((role : Role) (c : ℕ) (es : List E) → IsHeld by now seat role c es → IsHeld by after seat role c es)
       → (drawn : Option ℕ) → IfSome drawn (λ n. IsHeld by now seat noted n []) → IfSome drawn (λ n. IsHeld by after seat noted n [])
-  noted_on now after seat held None k = tt
-  noted_on now after seat held (Some n) k = held noted n [] k
+  noted_on now after seat held drawn k = noted_at now after seat (held noted) drawn k
 
   -- what a seat knows, under another course
   pub knows_on : (now after : Course E) (bare bare' : Type 0) (seat : ℕ) (v : View E)
