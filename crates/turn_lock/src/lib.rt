@@ -5,11 +5,19 @@
 //! Read `specs/Pass.antt` first, then `specs/Rule.antt`.
 #![tactic(auto)]
 
+mod held;
 mod historied;
 mod in_turn;
+mod lock;
+mod pass;
 mod plays;
 mod stage;
 mod start;
+mod turn;
 mod view;
 
+pub use held::Held;
 pub use historied::Historied;
+pub use lock::Lock;
+pub use pass::Pass;
+pub use turn::Turn;
