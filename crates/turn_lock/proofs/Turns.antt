@@ -352,3 +352,20 @@ module _ {T E : Type 0} (history : T → List E) (by : E → ℕ) (passes : ℕ)
         },
         refl,
       ))
+
+  -- the same of a seat that has just put the value into its slot
+  pub adds_filled : (slots i t : ℕ) (me : Me (Option T) (View E)) (v : View E) (x : T) (es : List E) → me ≡ (v, (0, Some x) ∷ []) → v.stage ≡ Holds t → v.live ≡ true
+      → history x ≡ v.seen ++ es → All (λ e. by e ≡ v.caller) es → length (history x) < 18446744073709551616 → (n : ℕ) → n ≡ length es
+      → Allows Rule slots i me 0 (λ m. (m + n) % 2 ^ 64) (Adds history (step slots 0 n 0 none) me)
+  adds_filled slots i t me v x es full holds live is all short n counts =
+      subst (λ (m : Me (Option T) (View E)). Allows Rule slots i m 0 (λ k. (k + n) % 2 ^ 64) (Adds history (step slots 0 n 0 none) m)) (sym full)
+          (adds slots i t (v, (0, Some x) ∷ []) x es holds live refl is all short n counts)
+
+  -- and of one that has then counted what it added
+  pub passes_on_added : (slots i t : ℕ) (me : Me (Option T) (View E)) (v : View E) (x : T) (es : List E) → me ≡ (adding v (drop (length v.seen) (history x)), (0, Some x) ∷ [])
+      → slots ≡ 1 → v.stage ≡ Holds t → history x ≡ v.seen ++ es
+      → Allows Rule slots i me 3 (λ n. (n + 1) % 2 ^ 64) (PassesOn (step slots 3 1 0 none) me)
+  passes_on_added slots i t me v x es after one_slot holds is =
+      let tail : drop (length v.seen) (history x) ≡ es = ap (λ l. drop (length v.seen) l) is ∙ drop-append_seam v.seen es in
+      subst (λ (m : Me (Option T) (View E)). Allows Rule slots i m 3 (λ k. (k + 1) % 2 ^ 64) (PassesOn (step slots 3 1 0 none) m)) (sym after)
+          (passes_on slots i t (adding v (drop (length v.seen) (history x)), (0, Some x) ∷ []) x one_slot holds refl (is ∙ ap (λ l. v.seen ++ l) (sym tail)))

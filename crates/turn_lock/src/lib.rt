@@ -13,6 +13,7 @@ mod pass;
 mod plays;
 mod stage;
 mod start;
+mod steps;
 mod turn;
 mod view;
 
