@@ -23,7 +23,7 @@ is_false true no_more = absurd (no_more refl)
 is_false false no_more = refl
 
 -- the value in a seat's hand
-abbrev value_or : {T : Type 0} → T → Option T → T
+abbrev pub value_or : {T : Type 0} → T → Option T → T
 value_or x None = x
 value_or x (Some y) = y
 
