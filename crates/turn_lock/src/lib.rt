@@ -17,7 +17,6 @@ mod steps;
 mod turn;
 mod view;
 
-pub use held::Held;
 pub use historied::Historied;
 pub use lock::Lock;
 pub use pass::Pass;
