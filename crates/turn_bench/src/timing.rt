@@ -10,9 +10,9 @@ use std::thread::Threads;
 use std::time::{Clock, Instant};
 use turn_lock::Lock;
 
-const ROUNDS: u32 = 5;
+const ROUNDS: u32 = 3;
 
-const TURNS: u32 = 1_000_000;
+const TURNS: u32 = 1_600_000;
 
 // The nanoseconds of a turn, the least of all rounds, and how many of a hundred turns were over when the first worker was
 // through, at that round.
@@ -24,7 +24,7 @@ struct Taken {
 
 /// Prints the figures for one worker and for four, at the lock and at a mutex.
 pub fn time<R: Print + Clock + Threads + Wait + Sync>(rt: &R, alloc: Global) -> Result<()> {
-    for workers in [1, 2, 4, 8] {
+    for workers in [1, 2, 4, 8, 64] {
         for keep in [false, true] {
             let job = Job {
                 turns: TURNS / workers,

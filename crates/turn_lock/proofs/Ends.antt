@@ -54,8 +54,7 @@ module _ {T E : Type 0} (history : T → List E) (by : E → ℕ) (passes : ℕ)
       let at = f.1.1 in
       let now = r.now in
       let value = r.home (is_home history by passes s r i t v at called) in
-      let mine = r.each i v at in
-      (
+      let mine = r.each i v at in (
         value.0,
         f.4 0 (Some value.0) (ap (λ hs. get_elem? hs 0) value.1),
         record {

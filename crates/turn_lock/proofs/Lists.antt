@@ -85,14 +85,14 @@ module _ {E : Type 0} where
     entries_own c (e ∷ es) all =
         let h : by e ≡ c = All-head (λ x. by x ≡ c) e es all in
         ap (λ b. cond b (e ∷ entries_of by c es) (entries_of by c es)) (eq-eqb (by e) c h)
-            ∙ ap (λ l. e ∷ l) (entries_own c es (All-tail (λ x. by x ≡ c) e es all))
+        ∙ ap (λ l. e ∷ l) (entries_own c es (All-tail (λ x. by x ≡ c) e es all))
 
     pub entries_other : (c d : ℕ) (es : List E) → d ≢ c → All (λ e. by e ≡ c) es → entries_of by d es ≡ []
     entries_other c d [] other all = refl
     entries_other c d (e ∷ es) other all =
         let h : by e ≡ c = All-head (λ x. by x ≡ c) e es all in
         ap (λ b. cond b (e ∷ entries_of by d es) (entries_of by d es)) (ne_eqb (by e) d (λ is. other (sym is ∙ h)))
-            ∙ entries_other c d es other (All-tail (λ x. by x ≡ c) e es all)
+        ∙ entries_other c d es other (All-tail (λ x. by x ≡ c) e es all)
 
     -- entries of one caller are added: its own grow by them, and those of each other stay
     pub entries_grown : (c : ℕ) (log es : List E) → All (λ e. by e ≡ c) es → entries_of by c (log ++ es) ≡ entries_of by c log ++ es

@@ -29,7 +29,7 @@ drawn_more {E} passes made views i v at live none_yet c test =
     let n = length-set views i w in
     let seats = c.seats in let room = c.room in let draws = c.draws in
     elim test [
-        yes above ↦ (let t = noted_above passes made above in record { few = c.few; seats = omega arith; room = omega arith; draws = omega arith })
+      | yes above ↦ (let t = noted_above passes made above in record { few = c.few; seats = omega arith; room = omega arith; draws = omega arith })
       | no below ↦ (let t = noted_below passes made (omega arith) in record { few = c.few; seats = omega arith; room = omega arith; draws = omega arith })
     ]
 
@@ -48,13 +48,12 @@ module _ {T E : Type 0} (history : T → List E) (by : E → ℕ) (passes : ℕ)
       let w : View E = drawing me.0 (Some n) in
       let after : Course E = record now { made = n + 1; owner = over now.owner n (i, noted) } in
       let held : (seat : ℕ) (role : Role) (c : ℕ) (es : List E) → IsHeld by now seat role c es → IsHeld by after seat role c es =
-        λ seat role c es h. let lt = h.0 in (omega arith, over_else now.owner n (i, noted) c (λ is. omega arith) ∙ h.1, h.2) in
+      λ seat role c es h. let lt = h.0 in (omega arith, over_else now.owner n (i, noted) c (λ is. omega arith) ∙ h.1, h.2) in
       let mine = r.each i me.0 at in
       let few = few_made s r in
       let up : (n + 1) % 18446744073709551616 ≡ n + 1 = omega arith in
       let still = total_set (λ (u : View E). has_ticket u.stage) s.views i me.0 w at in
-      let tickets = r.tickets in
-      (
+      let tickets = r.tickets in (
         w,
         keeps,
         tt,
@@ -92,7 +91,7 @@ module _ {T E : Type 0} (history : T → List E) (by : E → ℕ) (passes : ℕ)
       let mine = r.each i v at in
       let drawn : IsHeld by now i noted n [] = subst (λ (o : Option ℕ). IfSome o (λ m. IsHeld by now i noted m [])) note mine.noted in
       let held : (seat : ℕ) (role : Role) (c : ℕ) (es : List E) → as_role seat role ≢ as_role i noted → IsHeld by now seat role c es → IsHeld by after seat role c es =
-        λ seat role c es apart h. (h.0, over_else now.owner n (at_end, own) c (λ is. apart (sym h.1 ∙ (ap now.owner is ∙ drawn.1))) ∙ h.1, h.2) in
+      λ seat role c es apart h. (h.0, over_else now.owner n (at_end, own) c (λ is. apart (sym h.1 ∙ (ap now.owner is ∙ drawn.1))) ∙ h.1, h.2) in
       let a = total_set (λ (u : View E). in_reserve passes u.drawn) s.views i v w at in
       let a' = total_push (λ (u : View E). in_reserve passes u.drawn) views new in
       let b = total_set (λ (u : View E). draws_no_more passes u.live u.drawn) s.views i v w at in
@@ -114,16 +113,16 @@ module _ {T E : Type 0} (history : T → List E) (by : E → ℕ) (passes : ℕ)
         unmade = r.unmade;
         each = λ j u there. ⊎_elim
             (λ (old : get_elem? views j ≡ some u). each_set (Knows by after bare) s.views i w
-                record {
-                  stands = mine.stands;
-                  seen = mine.seen;
-                  beside = mine.beside;
-                  mine = λ alive. held i own v.caller v.mine (apart_as i own noted own_noted) (mine.mine alive);
-                  noted = tt;
-                  others = All-weaker (λ (o : ℕ × List E). IsHeld by now i returned o.0 o.1) (λ o. IsHeld by after i returned o.0 o.1) (λ o h. held i returned o.0 o.1 (apart_as i returned noted returned_noted) h) v.others mine.others;
-                }
-                (λ k x other here. knows_on by now after bare bare k x (λ h. h) (λ xs e. e) (λ role c es h. held k role c es (apart_at k i role noted other) h) (r.each k x here))
-                j u old)
+            record {
+              stands = mine.stands;
+              seen = mine.seen;
+              beside = mine.beside;
+              mine = λ alive. held i own v.caller v.mine (apart_as i own noted own_noted) (mine.mine alive);
+              noted = tt;
+              others = All-weaker (λ (o : ℕ × List E). IsHeld by now i returned o.0 o.1) (λ o. IsHeld by after i returned o.0 o.1) (λ o h. held i returned o.0 o.1 (apart_as i returned noted returned_noted) h) v.others mine.others;
+            }
+            (λ k x other here. knows_on by now after bare bare k x (λ h. h) (λ xs e. e) (λ role c es h. held k role c es (apart_at k i role noted other) h) (r.each k x here))
+            j u old)
             (λ (t : (j ≡ at_end) × (new ≡ u)). subst (λ (x : ℕ × View E). Knows by after bare x.0 x.1) (λ k. (sym t.0 k, t.1 k)) record {
               stands = tt;
               seen = mine.seen;
@@ -146,8 +145,7 @@ module _ {T E : Type 0} (history : T → List E) (by : E → ℕ) (passes : ℕ)
       let both = longer_of me.0.seen me.0.beside now.log mine.seen mine.beside in
       let t = total_set (λ (u : View E). has_ticket u.stage) s.views i me.0 w at in
       let tickets = r.tickets in
-      let bare : Type 0 = s.homes ≡ some None ∷ [] in
-      (
+      let bare : Type 0 = s.homes ≡ some None ∷ [] in (
         w,
         keeps,
         tt,
@@ -188,9 +186,9 @@ module _ {T E : Type 0} (history : T → List E) (by : E → ℕ) (passes : ℕ)
       let goes : (role : Role) → moved (other, role) ≡ (i, returned) = λ role. ap (λ b. cond b (i, returned) (other, role)) (eq-eqb other other refl) in
       let after : Course E = record now { owner = λ c. moved (now.owner c) } in
       let held : (seat : ℕ) (role : Role) (c : ℕ) (es : List E) → seat ≢ other → IsHeld by now seat role c es → IsHeld by after seat role c es =
-        λ seat role c es ne h. (h.0, ap moved h.1 ∙ stays seat role ne, h.2) in
+      λ seat role c es ne h. (h.0, ap moved h.1 ∙ stays seat role ne, h.2) in
       let given : (role : Role) (c : ℕ) (es : List E) → IsHeld by now other role c es → IsHeld by after i returned c es =
-        λ role c es h. (h.0, ap moved h.1 ∙ goes role, h.2) in
+      λ role c es h. (h.0, ap moved h.1 ∙ goes role, h.2) in
       let here : i ≢ other = λ e. apart (sym e) in
       let P : ℕ × List E → Type 0 = λ o. IsHeld by after i returned o.0 o.1 in
       let theirs : All P u.others = All-weaker (λ (o : ℕ × List E). IsHeld by now other returned o.0 o.1) P (λ o h. given returned o.0 o.1 h) u.others its.others in
@@ -223,16 +221,16 @@ module _ {T E : Type 0} (history : T → List E) (by : E → ℕ) (passes : ℕ)
               others = All-nil (λ (o : ℕ × List E). IsHeld by after other returned o.0 o.1);
             }
             (λ j x ne at_j. each_set (λ k y. k ≢ other → Knows by after bare k y) s.views i w
-                (λ _. record {
-                  stands = subst (Stands after bare i v.seen) (sym idle) tt;
-                  seen = mine.seen;
-                  beside = its.seen;
-                  mine = λ alive. held i own v.caller v.mine here (mine.mine alive);
-                  noted = noted_on by now after i (λ role c es h. held i role c es here h) v.drawn mine.noted;
-                  others = All-append P v.others ((u.caller, u.mine) ∷ u.others) ours (All-cons P (u.caller, u.mine) u.others its_own theirs);
-                })
-                (λ k y _ at_k not_other. knows_on by now after bare bare k y (λ h. h) (λ xs e. e) (λ role c es h. held k role c es not_other h) (r.each k y at_k))
-                j x at_j ne);
+            (λ _. record {
+              stands = subst (Stands after bare i v.seen) (sym idle) tt;
+              seen = mine.seen;
+              beside = its.seen;
+              mine = λ alive. held i own v.caller v.mine here (mine.mine alive);
+              noted = noted_on by now after i (λ role c es h. held i role c es here h) v.drawn mine.noted;
+              others = All-append P v.others ((u.caller, u.mine) ∷ u.others) ours (All-cons P (u.caller, u.mine) u.others its_own theirs);
+            })
+            (λ k y _ at_k not_other. knows_on by now after bare bare k y (λ h. h) (λ xs e. e) (λ role c es h. held k role c es not_other h) (r.each k y at_k))
+            j x at_j ne);
         home = r.home;
         away = λ out. keeper_set views other u spent (now.holder now.served) there (λ is. let e : false ≡ true = sym (ap keeps_out idle') ∙ is in cc)
             (keeper_set s.views i v w (now.holder now.served) at (λ is. is) (r.away out));

@@ -20,8 +20,8 @@ pub each_set : {V : Type 0} (P : ℕ → V → Type 0) (views : List V) (i : ℕ
     → ((j : ℕ) (v : V) → j ≢ i → get_elem? views j ≡ some v → P j v) → (j : ℕ) (v : V) → get_elem? (set views i w) j ≡ some v → P j v
 each_set {V} P views i w mine others j v at =
     ⊎_elim (λ (t : (j ≡ i) × (w ≡ v)). subst (λ (x : ℕ × V). P x.0 x.1) (λ k. (sym t.0 k, t.1 k)) mine)
-        (λ (t : (j ≢ i) × (get_elem? views j ≡ some v)). others j v t.0 t.1)
-        (at_set views i j w v at)
+    (λ (t : (j ≢ i) × (get_elem? views j ≡ some v)). others j v t.0 t.1)
+    (at_set views i j w v at)
 
 -- the roles differ, and so does a seat with one from a seat with another
 pub own_noted : own ≢ noted

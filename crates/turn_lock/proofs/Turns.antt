@@ -65,9 +65,8 @@ module _ {T E : Type 0} (history : T → List E) (by : E → ℕ) (passes : ℕ)
       let none_yet : has_ticket me.0.stage ≡ 0 = ap has_ticket idle in
       let tickets = r.tickets in
       let on : (seat ticket : ℕ) → IsTicket now seat ticket → IsTicket after seat ticket =
-        λ seat ticket h. let a = h.1 in let b = h.2 in (over_else now.holder d i ticket (λ is. omega arith) ∙ h.0, a, omega arith) in
-      let up : (d % 18446744073709551616 + 1) % 18446744073709551616 ≡ (d + 1) % 18446744073709551616 = omega arith in
-      (
+      λ seat ticket h. let a = h.1 in let b = h.2 in (over_else now.holder d i ticket (λ is. omega arith) ∙ h.0, a, omega arith) in
+      let up : (d % 18446744073709551616 + 1) % 18446744073709551616 ≡ (d + 1) % 18446744073709551616 = omega arith in (
         w,
         keeps,
         tt,
@@ -89,11 +88,11 @@ module _ {T E : Type 0} (history : T → List E) (by : E → ℕ) (passes : ℕ)
               (λ j v other there. knows_on by now after bare bare j v (stands_on now after bare j v.seen refl refl refl (on j) v.stage) (λ xs e. e) (λ role c es h. h) (r.each j v there));
           home = r.home;
           away = λ out.
-            let k = r.away out in
-            let first = keeper_has now bare (now.holder now.served) k.0.seen k.0.stage k.2 (r.each (now.holder now.served) k.0 k.1).stands in
-            let lt = first.2 in
-            subst (λ (m : ℕ). (u : View E) × (get_elem? (set s.views i w) m ≡ some u) × (keeps_out u.stage ≡ true)) (sym (over_else now.holder d i now.served (λ is. omega arith)))
-                (keeper_set s.views i me.0 w (now.holder now.served) at (λ is. let e : false ≡ true = sym (ap keeps_out idle) ∙ is in cc) k);
+              let k = r.away out in
+              let first = keeper_has now bare (now.holder now.served) k.0.seen k.0.stage k.2 (r.each (now.holder now.served) k.0 k.1).stands in
+              let lt = first.2 in
+              subst (λ (m : ℕ). (u : View E) × (get_elem? (set s.views i w) m ≡ some u) × (keeps_out u.stage ≡ true)) (sym (over_else now.holder d i now.served (λ is. omega arith)))
+              (keeper_set s.views i me.0 w (now.holder now.served) at (λ is. let e : false ≡ true = sym (ap keeps_out idle) ∙ is in cc) k);
         },
         (d, refl, refl),
       ))
@@ -108,46 +107,45 @@ module _ {T E : Type 0} (history : T → List E) (by : E → ℕ) (passes : ℕ)
       let w : View E = at_stage me.0 (Called (ticket_of me.0.stage)) in
       let P : Bool → Me (Option T) (View E) → Type 0 = λ b m. MatchBool b (m ≡ (w, me.1)) (m ≡ me) in
       dite (ℕ_discrete n (ticket_of me.0.stage % 18446744073709551616))
-          (λ same.
-            let h = subst (Stands now bare i me.0.seen) waits mine.stands in
-            let a = h.1 in let b = h.2 in
-            let few = few_tickets s.views in let room = r.counted.room in let most : passes < 4294967296 = r.counted.few in let tickets = r.tickets in
-            let turn : now.served ≡ t = one_turn now.served t 18446744073709551616 a (omega arith) (same ∙ ap (λ (m : ℕ). m % 18446744073709551616) ticket) in
-            let total_on = total_set (λ (u : View E). has_ticket u.stage) s.views i me.0 w at in
-            let one : has_ticket me.0.stage ≡ 1 = ap has_ticket waits in
-            (
-              w,
-              keeps,
-              tt,
+      (λ same.
+      let h = subst (Stands now bare i me.0.seen) waits mine.stands in
+      let a = h.1 in let b = h.2 in
+      let few = few_tickets s.views in let room = r.counted.room in let most : passes < 4294967296 = r.counted.few in let tickets = r.tickets in
+      let turn : now.served ≡ t = one_turn now.served t 18446744073709551616 a (omega arith) (same ∙ ap (λ (m : ℕ). m % 18446744073709551616) ticket) in
+      let total_on = total_set (λ (u : View E). has_ticket u.stage) s.views i me.0 w at in
+      let one : has_ticket me.0.stage ≡ 1 = ap has_ticket waits in (
+        w,
+        keeps,
+        tt,
+        record {
+          now = now;
+          words = refl;
+          counted = counted_same passes now.made s.views i me.0 w at refl refl r.counted;
+          tickets = omega arith;
+          unmade = r.unmade;
+          each = each_set (Knows by now bare) s.views i w
               record {
-                now = now;
-                words = refl;
-                counted = counted_same passes now.made s.views i me.0 w at refl refl r.counted;
-                tickets = omega arith;
-                unmade = r.unmade;
-                each = each_set (Knows by now bare) s.views i w
-                    record {
-                      stands = subst (λ (m : ℕ). IsTicket now i m × (m ≡ now.served)) (sym ticket) (h, sym turn);
-                      seen = mine.seen;
-                      beside = mine.beside;
-                      mine = mine.mine;
-                      noted = mine.noted;
-                      others = mine.others;
-                    }
-                    (λ j v other there. r.each j v there);
-                home = r.home;
-                away = λ out. keeper_set s.views i me.0 w (now.holder now.served) at (λ is. let e : false ≡ true = sym (ap keeps_out waits) ∙ is in cc) (r.away out);
-              },
-              subst (λ (b : Bool). P b (w, me.1)) (sym (eq-eqb n (ticket_of me.0.stage % 18446744073709551616) same)) refl,
-            ))
-          (λ differ. (
-            me.0,
-            keeps,
-            tt,
-            subst (λ (vs : List (View E)). Rule record { words = words_of now; homes = s.homes; views = vs }) (sym (set_again s.views i me.0 at))
-                record { now = now; words = refl; counted = r.counted; tickets = r.tickets; unmade = r.unmade; each = r.each; home = r.home; away = r.away },
-            subst (λ (b : Bool). P b me) (sym (ne_eqb n (ticket_of me.0.stage % 18446744073709551616) differ)) refl,
-          )))
+                stands = subst (λ (m : ℕ). IsTicket now i m × (m ≡ now.served)) (sym ticket) (h, sym turn);
+                seen = mine.seen;
+                beside = mine.beside;
+                mine = mine.mine;
+                noted = mine.noted;
+                others = mine.others;
+              }
+              (λ j v other there. r.each j v there);
+          home = r.home;
+          away = λ out. keeper_set s.views i me.0 w (now.holder now.served) at (λ is. let e : false ≡ true = sym (ap keeps_out waits) ∙ is in cc) (r.away out);
+        },
+        subst (λ (b : Bool). P b (w, me.1)) (sym (eq-eqb n (ticket_of me.0.stage % 18446744073709551616) same)) refl,
+      ))
+      (λ differ. (
+        me.0,
+        keeps,
+        tt,
+        subst (λ (vs : List (View E)). Rule record { words = words_of now; homes = s.homes; views = vs }) (sym (set_again s.views i me.0 at))
+            record { now = now; words = refl; counted = r.counted; tickets = r.tickets; unmade = r.unmade; each = r.each; home = r.home; away = r.away },
+        subst (λ (b : Bool). P b me) (sym (ne_eqb n (ticket_of me.0.stage % 18446744073709551616) differ)) refl,
+      )))
 
   -- the seat that has the ticket served, and keeps the slot
   holds_it : (views : List (View E)) (holder : ℕ → ℕ) (served i : ℕ) (v w : View E) → get_elem? views i ≡ some v → holder served ≡ i → keeps_out w.stage ≡ true
@@ -172,8 +170,7 @@ module _ {T E : Type 0} (history : T → List E) (by : E → ℕ) (passes : ℕ)
       let total_on = total_set (λ (u : View E). has_ticket u.stage) s.views i me.0 w at in
       let one : has_ticket me.0.stage ≡ 1 = ap has_ticket called in
       let tickets = r.tickets in
-      let own_held = mine.mine live in
-      (
+      let own_held = mine.mine live in (
         w,
         act,
         ap (λ hs. get_elem? hs 0) value.1,
@@ -222,8 +219,7 @@ module _ {T E : Type 0} (history : T → List E) (by : E → ℕ) (passes : ℕ)
       let here : now.holder now.served ≡ i = h.0.0 in
       let total_on = total_set (λ (u : View E). has_ticket u.stage) s.views i me.0 w at in
       let one : has_ticket me.0.stage ≡ 1 = ap has_ticket founds in
-      let tickets = r.tickets in
-      (
+      let tickets = r.tickets in (
         w,
         act,
         ap (λ hs. get_elem? hs 0) h.1,
@@ -263,14 +259,13 @@ module _ {T E : Type 0} (history : T → List E) (by : E → ℕ) (passes : ℕ)
       let here : now.holder now.served ≡ i = ap now.holder (sym h.1) ∙ h.0.0 in
       let own_held = mine.mine live in
       let held : (seat : ℕ) (role : Role) (c : ℕ) (fs : List E) → as_role seat role ≢ as_role i own → IsHeld by now seat role c fs → IsHeld by after seat role c fs =
-        λ seat role c fs apart k. (k.0, k.1, entries_stay by me.0.caller c now.log es (λ e. apart (sym k.1 ∙ (ap now.owner e ∙ own_held.1))) all ∙ k.2) in
+      λ seat role c fs apart k. (k.0, k.1, entries_stay by me.0.caller c now.log es (λ e. apart (sym k.1 ∙ (ap now.owner e ∙ own_held.1))) all ∙ k.2) in
       let total_on = total_set (λ (u : View E). has_ticket u.stage) s.views i me.0 w at in
       let tickets = r.tickets in
       let seen_is : me.0.seen ≡ now.log = h.3 in
       let same : length (me.0.seen ++ es) ≡ length (now.log ++ es) = ap (λ l. length (l ++ es)) seen_is in
       let split = length-append now.log es in
-      let up : (length now.log + n) % 18446744073709551616 ≡ length (now.log ++ es) = omega arith in
-      (
+      let up : (length now.log + n) % 18446744073709551616 ≡ length (now.log ++ es) = omega arith in (
         w,
         keeps,
         tt,
@@ -325,8 +320,7 @@ module _ {T E : Type 0} (history : T → List E) (by : E → ℕ) (passes : ℕ)
       let one : has_ticket me.0.stage ≡ 1 = ap has_ticket holds in
       let tickets = r.tickets in
       let m : ℕ = now.served in
-      let up : (m % 18446744073709551616 + 1) % 18446744073709551616 ≡ (m + 1) % 18446744073709551616 = omega arith in
-      (
+      let up : (m % 18446744073709551616 + 1) % 18446744073709551616 ≡ (m + 1) % 18446744073709551616 = omega arith in (
         w,
         act,
         tt,
@@ -359,7 +353,7 @@ module _ {T E : Type 0} (history : T → List E) (by : E → ℕ) (passes : ℕ)
       → Allows Rule slots i me 0 (λ m. (m + n) % 2 ^ 64) (Adds history (step slots 0 n 0 none) me)
   adds_filled slots i t me v x es full holds live is all short n counts =
       subst (λ (m : Me (Option T) (View E)). Allows Rule slots i m 0 (λ k. (k + n) % 2 ^ 64) (Adds history (step slots 0 n 0 none) m)) (sym full)
-          (adds slots i t (v, (0, Some x) ∷ []) x es holds live refl is all short n counts)
+      (adds slots i t (v, (0, Some x) ∷ []) x es holds live refl is all short n counts)
 
   -- and of one that has then counted what it added
   pub passes_on_added : (slots i t : ℕ) (me : Me (Option T) (View E)) (v : View E) (x : T) (es : List E) → me ≡ (adding v (drop (length v.seen) (history x)), (0, Some x) ∷ [])
@@ -368,4 +362,4 @@ module _ {T E : Type 0} (history : T → List E) (by : E → ℕ) (passes : ℕ)
   passes_on_added slots i t me v x es after one_slot holds is =
       let tail : drop (length v.seen) (history x) ≡ es = ap (λ l. drop (length v.seen) l) is ∙ drop-append_seam v.seen es in
       subst (λ (m : Me (Option T) (View E)). Allows Rule slots i m 3 (λ k. (k + 1) % 2 ^ 64) (PassesOn (step slots 3 1 0 none) m)) (sym after)
-          (passes_on slots i t (adding v (drop (length v.seen) (history x)), (0, Some x) ∷ []) x one_slot holds refl (is ∙ ap (λ l. v.seen ++ l) (sym tail)))
+      (passes_on slots i t (adding v (drop (length v.seen) (history x)), (0, Some x) ∷ []) x one_slot holds refl (is ∙ ap (λ l. v.seen ++ l) (sym tail)))

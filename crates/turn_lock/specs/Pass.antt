@@ -53,7 +53,7 @@ module _ {E : Type 0} where
   Divides passes before after made = MatchOption made
       ((n : ℕ) × (passes ≤ n) × HasDrawn before after n)
       (λ new. (new.caller < passes) × (new ≡ new_pass before new.caller) × (after ≡ record before { drawn = None })
-          × ((before.drawn ≡ Some new.caller) ⊎ ((before.drawn ≡ None) × (before.caller < new.caller))))
+      × ((before.drawn ≡ Some new.caller) ⊎ ((before.drawn ≡ None) × (before.caller < new.caller))))
 
   -- A history goes on from what a pass has seen, by entries of its caller
   abbrev pub AddsOwn : (E → ℕ) → List E → Known E → Type 0

@@ -60,7 +60,6 @@ module _ {T E : Type 0} where
   abbrev pub Opens : Step (Option T) → Sat T E → ℕ → Sat T E → Type 0
   Opens s before n after = (ticket : ℕ) × (after ≡ (at_stage before.0 (Holds ticket), (0, None) ∷ []))
 
-
 -- A seat stands at this table, which is one under a lock
 abbrev pub IsAt : TableId → TableId → Type 0
 IsAt board seat = (seat ≡ board) × (board.words ≡ 4) × (board.slots ≡ 1)

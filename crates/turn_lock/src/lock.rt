@@ -36,11 +36,7 @@ impl<T: Historied> Model for Lock<T> {
 
 impl<T: Historied> Lock<T> {
     /// A lock round the value, for at most so many passes, and the first pass, whose caller number is 0.
-    pub fn new(
-        alloc: Global,
-        value: T,
-        passes: u32,
-    ) -> Result<(Lock<T>, Pass<T>), (T, AllocError)>
+    pub fn new(alloc: Global, value: T, passes: u32) -> Result<(Lock<T>, Pass<T>), (T, AllocError)>
         requires passes { 0 < passes }
         requires short { length (T.history value) < 2 ^ 64 }
         requires first { All (λ e. T.caller_of e ≡ 0) (T.history value) }
