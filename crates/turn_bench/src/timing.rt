@@ -24,7 +24,7 @@ struct Taken {
 
 /// Prints the figures for one worker and for four, at the lock and at a mutex.
 pub fn time<R: Print + Clock + Threads + Wait + Sync>(rt: &R, alloc: Global) -> Result<()> {
-    for workers in [1, 2, 4, 8, 64] {
+    for workers in [1, 2, 4, 8] {
         for keep in [false, true] {
             let job = Job {
                 turns: TURNS / workers,

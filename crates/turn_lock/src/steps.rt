@@ -15,7 +15,6 @@ use crate::view::View;
 use atomic_table::{Seat, Shared};
 use std::hint::spin_loop;
 use std::sync::Wait;
-use std::time::Duration;
 
 pub(crate) const ENTRIES: usize = 0;
 
@@ -27,9 +26,6 @@ pub(crate) const SERVING: usize = 3;
 
 /// How often a waiter looks again before it sleeps.
 const SPINS: u32 = 200;
-
-// A sleeper looks again after this time, should the system not wake in order.
-const LONGEST_MILLIS: u64 = 10;
 
 // A sleep compares 32 bits.
 const LOW: u64 = 0xffff_ffff;
@@ -81,9 +77,7 @@ pub(crate) fn compare<T: Historied>(board: &Board<T>, seat: &mut Chair<T>)
     let _count = board.load::<Compare>(seat, ENTRIES);
 }
 
-/// Draws a ticket, and waits until it is served: looks some times, and then sleeps until it is woken.
-/// A turn that is passed on wakes the longest sleeper, mostly the next in line. One that was woken for a turn that is not its
-/// own wakes the next sleeper, once for each turn.
+/// Draws a ticket, and waits until it is served: looks some times, and then sleeps until a turn is passed on.
 pub(crate) fn wait<T: Historied, R: Wait>(rt: &R, board: &Board<T>, seat: &mut Chair<T>)
     requires at { IsAt board.now.table_id seat.old.table_id }
     requires idle { seat.old.me.0.stage ≡ Idle }
@@ -92,8 +86,6 @@ pub(crate) fn wait<T: Historied, R: Wait>(rt: &R, board: &Board<T>, seat: &mut C
 {
     let ticket = board.fetch_add::<Queue>(seat, TICKETS, 1);
     let mut spins = 0;
-    let longest = Duration::from_millis(LONGEST_MILLIS);
-    let mut slept_at = None;
     for _ in rt.forever() {
         let serving = board.load::<LookUp>(seat, SERVING);
         if serving == ticket {
@@ -103,11 +95,7 @@ pub(crate) fn wait<T: Historied, R: Wait>(rt: &R, board: &Board<T>, seat: &mut C
             spins += 1;
             spin_loop();
         } else {
-            if slept_at.is_some_and(|before| before != serving) {
-                board.wake_one(SERVING);
-            }
-            slept_at = Some(serving);
-            board.park_timeout(rt, SERVING, (serving & LOW) as u32, longest);
+            board.park(rt, SERVING, (serving & LOW) as u32);
         }
     }
     unreachable!()
@@ -149,7 +137,7 @@ pub(crate) fn fill<T: Historied>(board: &Board<T>, seat: &mut Chair<T>, value: T
     let None = found else { unreachable!() };
 }
 
-/// Puts the value back with what was added to it, counts that, and passes the turn on. A sleeper is woken where a ticket is out.
+/// Puts the value back with what was added to it, counts that, and passes the turn on. Those who sleep are woken where a ticket is out.
 pub(crate) fn put_back<T: Historied>(board: &Board<T>, seat: &mut Chair<T>, value: T, added: u64)
     requires at { IsAt board.now.table_id seat.old.table_id }
     requires holds { ((ticket : ℕ) × (seat.old.me.0.stage ≡ Holds ticket)) × (seat.old.me.0.live ≡ true) × (seat.old.me.1 ≡ (0, None) ∷ []) }
@@ -162,6 +150,6 @@ pub(crate) fn put_back<T: Historied>(board: &Board<T>, seat: &mut Chair<T>, valu
     let _count = board.fetch_add::<Add>(seat, ENTRIES, added);
     let served = board.fetch_add::<PassOn>(seat, SERVING, 1);
     if board.peek(TICKETS) != served.wrapping_add(1) {
-        board.wake_one(SERVING);
+        board.wake_all(SERVING);
     }
 }
