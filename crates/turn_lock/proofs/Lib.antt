@@ -1,0 +1,5 @@
+pub mod Lists
+pub mod Seats
+pub mod Numbers
+pub mod Turns
+pub mod Ends
