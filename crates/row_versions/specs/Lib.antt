@@ -1,0 +1,5 @@
+pub mod History
+pub mod Order
+pub mod Shows
+pub mod Changes
+pub mod Inside
