@@ -1,3 +1,7 @@
+pub mod EndPlaces
+pub mod LastPlaces
 pub mod Places
+pub mod Reopened
 pub mod RolledBack
 pub mod Seen
+pub mod Walk

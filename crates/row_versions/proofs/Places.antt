@@ -1,7 +1,8 @@
 -- Items of lists by their places, and the first place at which a test holds.
-use Rattle.std.proofs.Common.{◌≡◌, ◌≢◌, ℕ, zero, suc, ◌+◌, ◌<◌, ◌≤◌, ◌⊎◌, inl, inr, Bool, true, false, not, cond, nat_lt, List, [], ◌∷◌, ◌++◌, length, take, drop, map, set, Option, Some, None, option_map, slice_get, position, refl, sym, ap, ◌∙◌, arith}
+use Rattle.std.proofs.Common.{◌≡◌, ◌≢◌, ℕ, zero, suc, ◌+◌, ◌-◌, ◌<◌, ◌≤◌, ◌⊎◌, inl, inr, Bool, true, false, not, cond, nat_lt, List, [], ◌∷◌, ◌++◌, length, take, drop, map, set, Option, Some, None, option_map, slice_get, position, refl, sym, ap, ◌∙◌, arith, length-append}
 use Rattle.std.proofs.lemmas.Bool.Decides.{nat_tests}
 use Rattle.std.specs.List.{position_or_len}
+use Rattle.std.proofs.lemmas.Option.{slice_get_within}
 use Rattle.std.specs.Option.{option_map_or}
 
 -- ---- items by place
@@ -49,6 +50,28 @@ pub get-map : {X Y : Type 0} (f : X → Y) (xs : List X) (i : ℕ) (y : Y) → s
 get-map f [] i y h = absurd (cc)
 get-map f (x ∷ xs) zero y h = (x, refl, cc)
 get-map f (x ∷ xs) (suc i) y h = get-map f xs i y h
+
+-- ---- the last item
+
+front_by : {X : Type 0} (xs : List X) (n : ℕ) (x : X) → n + 1 ≡ length xs → slice_get xs n ≡ Some x → (front : List X) × (xs ≡ front ++ x ∷ [])
+front_by [] n x e at = absurd (cc)
+front_by (y ∷ []) zero x e at = ([], ap (λ z. z ∷ []) (cc))
+front_by (y ∷ []) (suc n) x e at = absurd (cc)
+front_by (y ∷ z ∷ zs) zero x e at = absurd (omega arith)
+front_by (y ∷ z ∷ zs) (suc n) x e at = let h = front_by (z ∷ zs) n x (omega arith) at in (y ∷ h.0, ap (λ l. y ∷ l) h.1)
+
+pub has-front : {X : Type 0} (xs : List X) (x : X) → slice_get xs (length xs - 1) ≡ Some x → (front : List X) × (xs ≡ front ++ x ∷ [])
+has-front xs x at = let lt = slice_get_within xs (length xs - 1) x at in front_by xs (length xs - 1) x (omega arith) at
+
+pub no-last : {X : Type 0} (xs : List X) → slice_get xs (length xs - 1) ≡ None → xs ≡ []
+no-last [] at = refl
+no-last (x ∷ xs) at = let h = get-within (x ∷ xs) (suc (length xs) - 1) (omega arith) in let e : None ≡ Some h.0 = sym at ∙ h.1 in absurd (cc)
+
+pub same-last : {X : Type 0} (xs front : List X) (x y : X) → slice_get xs (length xs - 1) ≡ Some x → xs ≡ front ++ y ∷ [] → y ≡ x
+same-last xs front x y at e =
+    let n : length xs - 1 ≡ length front = omega (arith, ap length e, length-append front (y ∷ [])) in
+    let s : Some y ≡ Some x = sym (get-last front y) ∙ ap (λ l. slice_get l (length front)) (sym e) ∙ ap (slice_get xs) (sym n) ∙ at in
+    cc
 
 -- ---- the first place, by recursion on the list
 

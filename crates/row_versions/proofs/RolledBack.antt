@@ -66,23 +66,25 @@ module _ (p q : Version → Bool) (f : Version → Version) (commit : ℕ) (late
 open_before : (n commit : ℕ) (o : Option ℕ) → n < commit → is_open n (end_before commit o) ≡ is_open n o
 open_before n commit None lt = refl
 open_before n commit (Some end) lt = elim (cases_lt end commit) [
-  inl early ↦ ap (λ b. is_open n (cond b (Some end) None)) (lt-ltb end commit early) |
-  inr late ↦ ap (λ b. is_open n (cond b (Some end) None)) (le-ltb end commit late) ∙ sym (lt-ltb n end (omega arith)) ]
+  | inl early ↦ ap (λ b. is_open n (cond b (Some end) None)) (lt-ltb end commit early)
+  | inr late ↦ ap (λ b. is_open n (cond b (Some end) None)) (le-ltb end commit late) ∙ sym (lt-ltb n end (omega arith))
+]
 
 open_after : (n commit : ℕ) (o : Option ℕ) → 0 < commit → commit ≤ n → is_open n (end_before commit o) ≡ is_open (commit - 1) o
 open_after n commit None pos le = refl
 open_after n commit (Some end) pos le = elim (cases_lt end commit) [
-  inl early ↦ ap (λ b. is_open n (cond b (Some end) None)) (lt-ltb end commit early) ∙ le-ltb n end (omega arith) ∙ sym (le-ltb (commit - 1) end (omega arith)) |
-  inr late ↦ ap (λ b. is_open n (cond b (Some end) None)) (le-ltb end commit late) ∙ sym (lt-ltb (commit - 1) end (omega arith)) ]
+  | inl early ↦ ap (λ b. is_open n (cond b (Some end) None)) (lt-ltb end commit early) ∙ le-ltb n end (omega arith) ∙ sym (le-ltb (commit - 1) end (omega arith))
+  | inr late ↦ ap (λ b. is_open n (cond b (Some end) None)) (le-ltb end commit late) ∙ sym (lt-ltb (commit - 1) end (omega arith))
+]
 
 shows_before : (commit : ℕ) (xs : List Version) → AreOrdered xs → ShowsBefore commit xs (rolled_back commit xs)
 shows_before commit xs ordered = record {
   earlier = λ n r lt. ap (option_map version_at) (position-agree (is_seen r n) (is_seen r n) (rolled_back commit xs) xs
-    (passes-below (is_seen r n) (is_seen r n) (reopened commit) commit (λ v le. early-unseen r n v (omega arith)) (λ v le. ap (λ b. v.row == r && (nat_le v.begin n && b)) (open_before n commit v.end lt)) xs ordered.rise));
+      (passes-below (is_seen r n) (is_seen r n) (reopened commit) commit (λ v le. early-unseen r n v (omega arith)) (λ v le. ap (λ b. v.row == r && (nat_le v.begin n && b)) (open_before n commit v.end lt)) xs ordered.rise));
   later = λ n r pos le. ap (option_map version_at) (position-agree (is_seen r n) (is_seen r (commit - 1)) (rolled_back commit xs) xs
-    (passes-below (is_seen r (commit - 1)) (is_seen r n) (reopened commit) commit (λ v late. early-unseen r (commit - 1) v (omega arith))
+      (passes-below (is_seen r (commit - 1)) (is_seen r n) (reopened commit) commit (λ v late. early-unseen r (commit - 1) v (omega arith))
       (λ v lt. ap (λ b. v.row == r && (b && is_open n (end_before commit v.end))) (le-leb v.begin n (omega arith) ∙ sym (le-leb v.begin (commit - 1) (omega arith)))
-        ∙ ap (λ b. v.row == r && (nat_le v.begin (commit - 1) && b)) (open_after n commit v.end pos le)) xs ordered.rise));
+      ∙ ap (λ b. v.row == r && (nat_le v.begin (commit - 1) && b)) (open_after n commit v.end pos le)) xs ordered.rise));
 }
 
 -- ---- what a roll back takes back
@@ -173,17 +175,17 @@ end_stays commit end w v is e lt = ap (λ (u : Version). u.end) is ∙ ap (end_b
 pub ordered-rolled : (commit : ℕ) (xs : List Version) → AreOrdered xs → AreOrdered (rolled_back commit xs)
 ordered-rolled commit xs o = record {
   rise = λ i j a b lt at there.
-    let p = get-rolled commit xs o.rise i a at in let q = get-rolled commit xs o.rise j b there in
-    let h = o.rise i j p.version q.version lt p.there q.there in
-    omega (arith, begin_of commit xs i a p, begin_of commit xs j b q);
+      let p = get-rolled commit xs o.rise i a at in let q = get-rolled commit xs o.rise j b there in
+      let h = o.rise i j p.version q.version lt p.there q.there in
+      omega (arith, begin_of commit xs i a p, begin_of commit xs j b q);
   last = λ i v end at e.
-    let p = get-rolled commit xs o.rise i v at in let q = rolled-end commit xs i v end p e in
-    let h = o.last i p.version end p.there q.0 in
-    omega (arith, begin_of commit xs i v p);
+      let p = get-rolled commit xs o.rise i v at in let q = rolled-end commit xs i v end p e in
+      let h = o.last i p.version end p.there q.0 in
+      omega (arith, begin_of commit xs i v p);
   follow = λ i j a b lt at there rows.
-    let p = get-rolled commit xs o.rise i a at in let q = get-rolled commit xs o.rise j b there in
-    let h = o.follow i j p.version q.version lt p.there q.there (sym (row_is commit xs i a p) ∙ rows ∙ row_is commit xs j b q) in
-    (h.0, end_stays commit h.0 a p.version p.is h.1 (let l = h.2 in let e = q.early in omega arith), omega (arith, h.2, begin_of commit xs j b q));
+      let p = get-rolled commit xs o.rise i a at in let q = get-rolled commit xs o.rise j b there in
+      let h = o.follow i j p.version q.version lt p.there q.there (sym (row_is commit xs i a p) ∙ rows ∙ row_is commit xs j b q) in
+      (h.0, end_stays commit h.0 a p.version p.is h.1 (let l = h.2 in let e = q.early in omega arith), omega (arith, h.2, begin_of commit xs j b q));
 }
 
 pub kept-rolled : (commit horizon : ℕ) (xs : List Version) → KeepsOrder (record { versions = xs; horizon = horizon }) → horizon < commit → length (rolled_back commit xs) ≤ length xs → KeepsOrder (record { versions = rolled_back commit xs; horizon = horizon })
@@ -191,7 +193,7 @@ kept-rolled commit horizon xs k above fewer = record {
   ordered = ordered-rolled commit xs k.ordered;
   few = let f = k.few in omega arith;
   emptied = λ i v at gone.
-    let p = get-rolled commit xs k.ordered.rise i v at in
-    let h = k.emptied i p.version p.there (ap (λ (u : Version). u.emptied) (sym p.is) ∙ gone) in
-    (h.0, end_stays commit h.0 v p.version p.is h.1 (let l = h.2 in omega arith), h.2);
+      let p = get-rolled commit xs k.ordered.rise i v at in
+      let h = k.emptied i p.version p.there (ap (λ (u : Version). u.emptied) (sym p.is) ∙ gone) in
+      (h.0, end_stays commit h.0 v p.version p.is h.1 (let l = h.2 in omega arith), h.2);
 }

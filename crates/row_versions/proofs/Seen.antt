@@ -72,8 +72,8 @@ module _ (row commit : ℕ) (xs : List Version) (latest : IsLatest commit xs) (n
 
   append_here : visible row n (xs ++ begun row commit ∷ []) ≡ Some (version_at (length xs))
   append_here = ap (option_map version_at)
-    (position-at (is_seen row n) (xs ++ begun row commit ∷ []) (length xs) (begun row commit) (get-last xs (begun row commit)) (seen-so row n (begun row commit) refl le refl)
-    (λ k w lt at. before k w lt at (get-push xs (begun row commit) k w at) (w.row == row) refl))
+      (position-at (is_seen row n) (xs ++ begun row commit ∷ []) (length xs) (begun row commit) (get-last xs (begun row commit)) (seen-so row n (begun row commit) refl le refl)
+      (λ k w lt at. before k w lt at (get-push xs (begun row commit) k w at) (w.row == row) refl))
 
 pub appends-show : AppendsShow
 appends-show row commit xs ordered latest none = record {

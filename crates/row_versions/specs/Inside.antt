@@ -1,5 +1,5 @@
 -- How versions are kept: each with a link to the one before it of its row, the last one of each row, and those that ended, in the order of their ends.
-use Rattle.std.specs.Prelude.{◌≡◌, ◌≢◌, ℕ, ◌+◌, ◌<◌, ◌≤◌, List, [], ◌∷◌, ◌++◌, length, sum_by, Option, Some, None, is_some, slice_get, slice_set, if◌then◌else◌}
+use Rattle.std.specs.Prelude.{◌≡◌, ◌≢◌, ℕ, ◌+◌, ◌<◌, ◌≤◌, List, [], ◌∷◌, ◌++◌, length, Option, Some, None, is_some, slice_get, slice_set, take, ◌-◌, if◌then◌else◌, Bool, false, nat_lt}
 use Rattle.row_versions.specs.declared.version.Version.{Version}
 use Rattle.row_versions.specs.History.{History}
 use Rattle.row_versions.specs.Order.{KeepsOrder}
@@ -58,9 +58,20 @@ pub record HasEnd (versions : List Version) (place end : ℕ) : Type 0 where
   pub there : slice_get versions place ≡ Some version
   pub at : version.end ≡ Some end
 
--- One for a version that has an end.
-abbrev pub ended_one : Version → ℕ
-ended_one v = if is_some v.end then 1 else 0
+-- Whether there is an end, which comes before a commit.
+abbrev pub ends_before : ℕ → Option ℕ → Bool
+ends_before commit None = false
+ends_before commit (Some end) = nat_lt end commit
+
+-- One for an end, and nothing for none.
+abbrev pub one_of : Option ℕ → ℕ
+one_of None = 0
+one_of (Some end) = 1
+
+-- How many versions have an end.
+abbrev pub count_ended : List Version → ℕ
+count_ended [] = 0
+count_ended (v ∷ vs) = one_of v.end + count_ended vs
 
 -- The places are those of the versions that ended, each once, by their ends.
 pub record AreEnded (versions : List Version) (places : List ℕ) : Type 0 where
@@ -68,7 +79,7 @@ pub record AreEnded (versions : List Version) (places : List ℕ) : Type 0 where
   pub all : (place : ℕ) (v : Version) (end : ℕ) → slice_get versions place ≡ Some v → v.end ≡ Some end → (i : ℕ) × (slice_get places i ≡ Some place)
   pub once : (i j place : ℕ) → slice_get places i ≡ Some place → slice_get places j ≡ Some place → i ≡ j
   pub rise : (i j p q e f : ℕ) → i < j → slice_get places i ≡ Some p → slice_get places j ≡ Some q → HasEnd versions p e → HasEnd versions q f → e ≤ f
-  pub counted : sum_by ended_one versions ≡ length places
+  pub counted : count_ended versions ≡ length places
 
 -- Of the places of versions that ended, so many come first whose ends are at most a number, and the others' ends are above it.
 pub record SplitsEnds (n : ℕ) (versions : List Version) (places : List ℕ) (at : ℕ) : Type 0 where
@@ -79,6 +90,11 @@ pub record SplitsEnds (n : ℕ) (versions : List Version) (places : List ℕ) (a
 -- The places of the last versions of rows with that of one row, which may be the next row.
 abbrev pub noted : ℕ → ℕ → List ℕ → List ℕ
 noted row place lasts = if is_some (slice_get lasts row) then slice_set lasts row place else lasts ++ place ∷ []
+
+-- The places of the last versions of rows when the last version of a row goes: the one before it is then the last, or the row goes, which is the last row.
+abbrev pub forgotten : ℕ → Option ℕ → List ℕ → List ℕ
+forgotten row (Some before) lasts = slice_set lasts row before
+forgotten row None lasts = take (length lasts - 1) lasts
 
 -- All of it fits together, and there is room for the end of each version.
 pub record BelongTogether (versions : List Version) (links : List (Option ℕ)) (lasts ended : List ℕ) (horizon room : ℕ) : Type 0 where

@@ -10,7 +10,10 @@ pub(crate) fn ended_by(list: &VersionList, ended: &[u32], n: u64) -> usize
     requires ends { AreEnded list.now.versions ended.now }
     ensures exact { SplitsEnds n list.now.versions ended.now result }
 {
-    if ended.is_empty() || has_ended_by(list, ended[ended.len() - 1], n) {
+    let Some(last) = ended.last().copied() else {
+        return 0;
+    };
+    if has_ended_by(list, last, n) {
         return ended.len();
     }
     let mut low = 0;
@@ -57,10 +60,10 @@ pub(crate) fn reopen(list: &mut VersionList, ended: &mut Vec<u32>, commit: u64)
 {
     while let Some(last) = ended.last().copied() {
         let version = list.version(last as usize);
-        if version.end.is_some_and(|end| end < commit) {
+        if version.ends_before(commit) {
             break;
         }
         list.set(last as usize, version.endless());
-        ended.pop();
+        let _last = ended.take_last();
     }
 }

@@ -1,5 +1,5 @@
 ghost use Rattle.std.specs.Prelude.{◌≡◌, ◌<◌, ◌≤◌, ℕ, List, nat_lt, filter, length, vec_len, vec_capacity, slice_get, Some, None};
-ghost use Rattle.row_versions.specs.Inside.{AreEnded, AreLinked, AreNewest, HasOneBehind, noted};
+ghost use Rattle.row_versions.specs.Inside.{AreEnded, AreLinked, AreNewest, HasOneBehind, forgotten, noted};
 ghost use Rattle.row_versions.specs.Order.{BeginsRise};
 ghost use Rattle.row_versions.specs.declared.version.Version.{Version};
 
@@ -47,12 +47,18 @@ fn pop(list: &mut VersionList, lasts: &mut Vec<u32>)
     ensures newest { AreNewest list.new.versions lasts.new.items }
 {
     let place = list.len() - 1;
-    let row = list.version(place).row as usize;
-    match list.before(place) {
-        Some(before) => lasts[row] = before,
-        None => {
-            lasts.pop();
-        }
-    }
+    let version = list.version(place);
+    forget_last(lasts, version.row as usize, list.before(place));
     list.pop();
+}
+
+// Notes the place of the version before the last one of a row, or forgets the row, which is then the last one.
+fn forget_last(lasts: &mut Vec<u32>, row: usize, before: Option<u32>)
+    requires { row < length lasts.old.items }
+    ensures exact { lasts.new.items ≡ forgotten row before lasts.old.items }
+{
+    match before {
+        Some(before) => lasts[row] = before,
+        None => lasts.truncate(lasts.len() - 1),
+    }
 }

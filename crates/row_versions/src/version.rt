@@ -15,6 +15,7 @@ pub struct Version {
 
 impl Version {
     ghost use Rattle.row_versions.specs.History.{begun, ended, endless, given_up, is_open};
+    ghost use Rattle.row_versions.specs.Inside.{ends_before};
 
     /// A version of a row that begins at a commit.
     pub(crate) fn begun(row: u32, commit: u64) -> Version
@@ -62,6 +63,16 @@ impl Version {
         match self.end {
             Some(end) => n < end,
             None => true,
+        }
+    }
+
+    /// Whether it has an end, which comes before a commit.
+    pub(crate) fn ends_before(&self, commit: u64) -> bool
+        ensures exact { result ≡ ends_before commit self.now.end }
+    {
+        match self.end {
+            Some(end) => end < commit,
+            None => false,
         }
     }
 }
