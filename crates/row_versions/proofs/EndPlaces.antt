@@ -1,7 +1,7 @@
 -- The places of the versions that ended, by their ends.
 use Rattle.std.proofs.Common.{◌≡◌, ◌≢◌, ℕ, zero, suc, ◌+◌, ◌-◌, ◌<◌, ◌≤◌, ◌⊎◌, inl, inr, Bool, true, false, cond, nat_lt, nat_le, List, [], ◌∷◌, ◌++◌, length, take, drop, map, set, Option, Some, None, is_some, slice_get, get_or, refl, sym, ap, subst, ◌∙◌, arith, length-append, length-set}
 use Rattle.std.proofs.lemmas.Bool.{cases_eq, cases_lt, cases_order, lt-ltb, le-ltb, leb-true, leb-false, ltb-true, ltb-false}
-use Rattle.std.proofs.lemmas.Option.{slice_get_within, same_Some}
+use Rattle.std.proofs.lemmas.Option.{slice_get_within, slice_get-get_or}
 use Rattle.row_versions.specs.declared.version.Version.{Version}
 use Rattle.row_versions.specs.History.{begun, ended, endless, end_before, reopened}
 use Rattle.row_versions.specs.Order.{AreOrdered, BeginsRise}
@@ -188,3 +188,13 @@ module _ (xs : List Version) (ps : List ℕ) (a : AreEnded xs ps) (m p e n : ℕ
       by (inl is) = let same : Some q ≡ Some p = sym there ∙ ap (slice_get ps) is ∙ at in let own : q ≡ p = cc in let one = end-once xs p f e (subst (λ z. HasEnd xs z f) own k) h in omega arith
       by (inr (inl less)) = absurd (omega arith)
       by (inr (inr more)) = let up = a.rise m i p q e f more at there h k in omega arith
+
+pub place-has : (xs : List Version) (ps : List ℕ) → AreEnded xs ps → (m : ℕ) → m < length ps → (e : ℕ) × HasEnd xs (get_or ps m 0) e
+place-has xs ps a m lt = a.each m (get_or ps m 0) (slice_get-get_or ps m 0 lt)
+
+pub all-split : (n : ℕ) (xs : List Version) (ps : List ℕ) (p e : ℕ) → AreEnded xs ps → slice_get ps (length ps - 1) ≡ Some p → HasEnd xs p e → e ≤ n → SplitsEnds n xs ps (length ps)
+all-split n xs ps p e a at h le = record {
+  within = omega arith;
+  low = λ i q f lt there k. ends-below xs ps a (length ps - 1) p e n at h le i q f (omega arith) there k;
+  high = λ i q f more there k. let lt = slice_get_within ps i q there in absurd (omega arith);
+}

@@ -8,7 +8,7 @@ use Rattle.row_versions.specs.declared.version.Version.{Version}
 use Rattle.row_versions.specs.History.{rows_of, begun}
 use Rattle.row_versions.specs.Order.{BeginsRise}
 use Rattle.row_versions.specs.Inside.{AreOther, IsPlaceOfLast, IsLast, AreLinked, AreNewest, noted, forgotten, Linked, HasOneBehind}
-use Rattle.row_versions.proofs.Places.{get-front, get-last, get-push, get-set, get-set_same, get-set_other, get-within}
+use Rattle.row_versions.proofs.Places.{get-front, get-last, get-push, get-set, get-set_same, get-set_other, get-within, has-front}
 use Rattle.row_versions.proofs.RolledBack.{below}
 
 -- ---- a version behind the others
@@ -138,3 +138,28 @@ module _ (xs : List Version) (v : Version) (lasts : List ℕ) (a : AreNewest (xs
       early = early_front;
       next = next_front;
     }
+
+-- ---- what the code knows when it takes the last version away
+
+pub pop-linked : (all front : Linked) → HasOneBehind all front → AreLinked all.versions all.links → AreLinked front.versions front.links
+pop-linked all front h a = linked-front front.versions h.version front.links h.link (subst (λ l. AreLinked (front.versions ++ h.version ∷ []) l) h.links (subst (λ l. AreLinked l all.links) h.versions a))
+
+forgets : (xs : List Version) (v : Version) (lasts news : List ℕ) (l : Option ℕ) → AreNewest (xs ++ v ∷ []) lasts → IsLast v.row xs (length xs) l → news ≡ forgotten v.row l lasts → AreNewest xs news
+forgets xs v lasts news (Some before) a last is = subst (λ l. AreNewest xs l) (sym is) (forget-to xs v lasts a before last)
+forgets xs v lasts news None a last is =
+    let b = a.below (length xs) v (get-last xs v) in
+    let lt : length lasts - 1 < length lasts = omega arith in
+    let y = get-within lasts (length lasts - 1) lt in
+    let h = has-front lasts y.0 y.1 in
+    let n : length h.0 ≡ length lasts - 1 = omega (arith, ap length h.1, length-append h.0 (y.0 ∷ [])) in
+    let front : h.0 ≡ news = sym (is ∙ ap (take (length lasts - 1)) h.1 ∙ take_at h.0 (y.0 ∷ []) (length lasts - 1) n) in
+    subst (λ l. AreNewest xs l) front (forget-row xs v lasts a h.0 y.0 h.1 last)
+
+pub pop-newest : (all front : Linked) (lasts news : List ℕ) (n : ℕ) (v : Version) (l : Option ℕ) → HasOneBehind all front → AreLinked all.versions all.links → AreNewest all.versions lasts → n ≡ length all.versions - 1 → slice_get all.versions n ≡ Some v → slice_get all.links n ≡ Some l → news ≡ forgotten v.row l lasts → AreNewest front.versions news
+pop-newest all front lasts news n v l h a b e at there is =
+    let m : n ≡ length front.versions = omega (arith, ap length h.versions, length-append front.versions (h.version ∷ [])) in
+    let here : Some h.version ≡ Some v = sym (get-last front.versions h.version) ∙ ap (λ xs. slice_get xs (length front.versions)) (sym h.versions) ∙ ap (slice_get all.versions) (sym m) ∙ at in
+    let own : h.version ≡ v = cc in
+    let whole : all.versions ≡ front.versions ++ v ∷ [] = h.versions ∙ ap (λ u. front.versions ++ u ∷ []) own in
+    let last : IsLast v.row front.versions (length front.versions) l = is-last-front v.row front.versions v (length front.versions) l (omega arith) (subst (λ xs. IsLast v.row xs (length front.versions) l) whole (subst (λ k. IsLast v.row all.versions k l) m (a.each n v l at there))) in
+    forgets front.versions v lasts news l (subst (λ xs. AreNewest xs lasts) whole b) last is

@@ -1,3 +1,4 @@
+pub mod CutOff
 pub mod EndPlaces
 pub mod LastPlaces
 pub mod Places
