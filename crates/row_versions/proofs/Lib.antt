@@ -1,8 +1,11 @@
 pub mod CutOff
 pub mod EndPlaces
+pub mod Inserted
 pub mod LastPlaces
 pub mod Places
 pub mod Reopened
 pub mod RolledBack
+pub mod Rows
 pub mod Seen
+pub mod Together
 pub mod Walk

@@ -106,7 +106,8 @@ impl Versions {
 
     /// Ends a version at a commit: it is seen below it and no more from it on.
     pub fn end_at(&mut self, version: VersionId, commit: u64)
-        requires { IfSome (slice_get self.old.versions version.0) (λ v. (v.end ≡ None) × (v.begin ≤ commit)) }
+        requires within { version.0 < length self.old.versions }
+        requires endless { IfSome (slice_get self.old.versions version.0) (λ v. (v.end ≡ None) × (v.begin ≤ commit)) }
         ensures exact { self.new ≡ record { versions = changed (ended commit) version.0 self.old.versions; horizon = self.old.horizon } }
     {
         let place = version.0 as usize;
@@ -166,7 +167,8 @@ impl Versions {
 
     /// Marks a version emptied that ended by a number of commits, and raises the horizon to that number.
     pub fn empty_old(&mut self, version: VersionId, horizon: u64)
-        requires { IfSome (slice_get self.old.versions version.0) (HasEndedBy horizon) }
+        requires within { version.0 < length self.old.versions }
+        requires ended { IfSome (slice_get self.old.versions version.0) (HasEndedBy horizon) }
         ensures exact { self.new ≡ record { versions = changed given_up version.0 self.old.versions; horizon = max self.old.horizon horizon } }
     {
         let place = version.0 as usize;
