@@ -60,6 +60,20 @@ append-keeps xs ls lasts ends horizon room more row commit b latest none most ne
   fits = omega (arith, length-append xs (begun row commit ∷ []));
 }
 
+-- what the code knows when it appended
+pub appended-together : (before after : Linked) (lasts grown news ends more_ends : List ℕ) (horizon room more row commit place : ℕ) (version : Version) (link : Option ℕ) → BelongTogether before.versions before.links lasts ends horizon room
+    → IsLatest commit before.versions → newest row before.versions ≡ None → row ≤ rows_of before.versions → place ≡ length before.versions → place ≢ most_versions → length before.versions + 1 ≤ more
+    → after ≡ record { versions = before.versions ++ version ∷ []; links = before.links ++ link ∷ [] } → version ≡ begun row commit → link ≡ slice_get lasts row → grown ≡ lasts → news ≡ noted row place grown → more_ends ≡ ends
+    → BelongTogether after.versions after.links news more_ends horizon more
+appended-together before after lasts grown news ends more_ends horizon room more row commit place version link b latest none most at ne fits made begins linked same noting kept =
+    let k = append-keeps before.versions before.links lasts ends horizon room more row commit b latest none most (λ e. ne (at ∙ e)) fits in
+    let whole : after ≡ record { versions = before.versions ++ begun row commit ∷ []; links = before.links ++ slice_get lasts row ∷ [] } =
+      made ∙ ap (λ (v : Version). record { versions = before.versions ++ v ∷ []; links = before.links ++ link ∷ [] }) begins ∙ ap (λ (l : Option ℕ). record { versions = before.versions ++ begun row commit ∷ []; links = before.links ++ l ∷ [] }) linked in
+    let noted_is : news ≡ noted row (length before.versions) lasts = noting ∙ ap (noted row place) same ∙ ap (λ p. noted row p lasts) at in
+    subst (λ (l : Linked). BelongTogether l.versions l.links news more_ends horizon more) (sym whole)
+    (subst (λ z. BelongTogether (before.versions ++ begun row commit ∷ []) (before.links ++ slice_get lasts row ∷ []) z more_ends horizon more) (sym noted_is)
+    (subst (λ z. BelongTogether (before.versions ++ begun row commit ∷ []) (before.links ++ slice_get lasts row ∷ []) (noted row (length before.versions) lasts) z horizon more) (sym kept) k))
+
 -- ---- a version ends
 
 module _ (xs : List Version) (k commit : ℕ) (v : Version) (o : AreOrdered xs) (at : slice_get xs k ≡ Some v) (none : v.end ≡ None) (begins : v.begin ≤ commit) where
@@ -191,3 +205,21 @@ rolled-keeps xs ys zs ls lasts ends horizon room commit b above e f linked newes
       ends = ended;
       fits = omega arith;
     }
+
+-- what the code knows when it ended, emptied and took back
+pub ended-together : (before after : Linked) (lasts ends news : List ℕ) (horizon room more k commit at : ℕ) (v w : Version) → BelongTogether before.versions before.links lasts ends horizon room → slice_get before.versions k ≡ Some v → v.end ≡ None → v.begin ≤ commit → SplitsEnds commit before.versions ends at
+    → after ≡ record { versions = set before.versions k w; links = before.links } → w ≡ ended commit v → news ≡ take at ends ++ (k ∷ drop at ends) → more ≡ room → BelongTogether after.versions after.links lasts news horizon more
+ended-together before after lasts ends news horizon room more k commit at v w b there none begins s made is put same =
+    let r = end-keeps before.versions before.links lasts ends horizon room k commit at v b there none begins s in
+    let whole : after ≡ record { versions = set before.versions k (ended commit v); links = before.links } = made ∙ ap (λ (u : Version). record { versions = set before.versions k u; links = before.links }) is in
+    subst (λ (l : Linked). BelongTogether l.versions l.links lasts news horizon more) (sym whole)
+    (subst (λ z. BelongTogether (set before.versions k (ended commit v)) before.links lasts z horizon more) (sym put)
+    (subst (λ z. BelongTogether (set before.versions k (ended commit v)) before.links lasts (take at ends ++ (k ∷ drop at ends)) horizon z) (sym same) r))
+
+pub emptied-together : (before after : Linked) (lasts ends : List ℕ) (horizon room k to top : ℕ) (v w : Version) → BelongTogether before.versions before.links lasts ends horizon room → slice_get before.versions k ≡ Some v → HasEndedBy to v
+    → after ≡ record { versions = set before.versions k w; links = before.links } → w ≡ given_up v → top ≡ max horizon to → BelongTogether after.versions after.links lasts ends top room
+emptied-together before after lasts ends horizon room k to top v w b there h made is high =
+    let r = empty-keeps before.versions before.links lasts ends horizon room k to v b there h in
+    let whole : after ≡ record { versions = set before.versions k (given_up v); links = before.links } = made ∙ ap (λ (u : Version). record { versions = set before.versions k u; links = before.links }) is in
+    subst (λ (l : Linked). BelongTogether l.versions l.links lasts ends top room) (sym whole)
+    (subst (λ z. BelongTogether (set before.versions k (given_up v)) before.links lasts ends z room) (sym high) r)

@@ -5,6 +5,14 @@ ghost use Rattle.row_versions.specs.declared.version.Version.{Version};
 
 use crate::version_list::VersionList;
 
+/// The place of the last version of a row, if there is such a row.
+#[tactic(auto, using(std::proofs::lemmas::Option::gets))]
+pub(crate) fn last_of(lasts: &[u32], row: usize) -> Option<u32>
+    ensures exact { result ≡ slice_get lasts.now row }
+{
+    lasts.get(row).copied()
+}
+
 /// Notes the place of the last version of a row, which may be the next row. There is room for it.
 pub(crate) fn note_last(lasts: &mut Vec<u32>, row: usize, place: u32)
     requires within { row ≤ length lasts.old.items }

@@ -6,7 +6,7 @@ use crate::append_fault::AppendFault;
 use crate::change::Change;
 use crate::changing::changes_of;
 use crate::ends::{ended_by, insert_place, reopen};
-use crate::lasts::{cut, note_last};
+use crate::lasts::{cut, last_of, note_last};
 use crate::version::Version;
 use crate::version_id::VersionId;
 use crate::version_list::VersionList;
@@ -98,7 +98,7 @@ impl Versions {
         }
         self.ended.reserve(place + 1 - self.ended.len())?;
         self.lasts.reserve(1)?;
-        let before = self.lasts.get(row as usize).copied();
+        let before = last_of(&self.lasts, row as usize);
         self.list.push(Version::begun(row, commit), before)?;
         note_last(&mut self.lasts, row as usize, place as u32);
         Ok(VersionId(place as u32))
