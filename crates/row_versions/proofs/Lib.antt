@@ -8,4 +8,5 @@ pub mod RolledBack
 pub mod Rows
 pub mod Seen
 pub mod Together
+pub mod TouchLists
 pub mod Walk

@@ -3,3 +3,4 @@ pub mod Order
 pub mod Shows
 pub mod Changes
 pub mod Inside
+pub mod Touched

@@ -13,6 +13,7 @@ mod ends;
 mod lasts;
 mod laws;
 mod touch;
+mod touching;
 mod version;
 mod version_id;
 mod version_list;
