@@ -2,6 +2,7 @@ pub mod CutOff
 pub mod EndPlaces
 pub mod Inserted
 pub mod LastPlaces
+pub mod Merged
 pub mod Places
 pub mod Reopened
 pub mod RolledBack

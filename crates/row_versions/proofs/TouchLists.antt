@@ -121,3 +121,40 @@ module _ (xs : List Version) (rise : BeginsRise xs) (m n : ℕ) (v : Version) (a
       by (inl is) = let same : Some w ≡ Some v = sym there ∙ ap (slice_get xs) is ∙ at in let own : w ≡ v = cc in omega (arith, ap (λ (z : Version). z.begin) own)
       by (inr (inl less)) = absurd (omega arith)
       by (inr (inr more)) = omega (arith, rise m i v w more at there)
+
+-- ---- one turn of each loop
+
+begin_touch : (from to a b place : ℕ) (xs : List Version) (v : Version) → SplitsBegins from xs a → SplitsBegins to xs b → a ≤ place → place < b → slice_get xs place ≡ Some v → IsTouch from to xs (record { commit = v.begin; row = v.row; place = place })
+begin_touch from to a b place xs v s t low high at = record {
+  above = s.high place v low at;
+  within = t.low place v high at;
+  version = v;
+  there = at;
+  named = refl;
+  at = inl refl;
+}
+
+pub begin-turn : (from to a b place : ℕ) (xs : List Version) (ts us : List Touch) (v : Version) (t : Touch) → SplitsBegins from xs a → SplitsBegins to xs b → a ≤ place → place < b → slice_get xs place ≡ Some v → t ≡ record { commit = v.begin; row = v.row; place = place } → us ≡ ts ++ t ∷ [] → HasOnly from to xs ts → HasBegins from to xs ts place
+    → HasOnly from to xs us × HasBegins from to xs us (place + 1)
+begin-turn from to a b place xs ts us v t s r low high at is grown only begins =
+    subst (λ l. HasOnly from to xs l × HasBegins from to xs l (place + 1)) (sym grown)
+    (only-push from to xs ts t only (subst (λ (z : Touch). IsTouch from to xs z) (sym is) (begin_touch from to a b place xs v s r low high at)), begins-more from to xs ts place v t at is begins)
+
+end_touch : (from to a b k place end : ℕ) (xs : List Version) (ps : List ℕ) (v : Version) → SplitsEnds from xs ps a → SplitsEnds to xs ps b → a ≤ k → k < b → slice_get ps k ≡ Some place → slice_get xs place ≡ Some v → v.end ≡ Some end → IsTouch from to xs (record { commit = end; row = v.row; place = place })
+end_touch from to a b k place end xs ps v s t low high found at ends = record {
+  above = s.high k place end low found (record { version = v; there = at; at = ends });
+  within = t.low k place end high found (record { version = v; there = at; at = ends });
+  version = v;
+  there = at;
+  named = refl;
+  at = inr ends;
+}
+
+pub end-turn : (from to a b k place end bound : ℕ) (xs : List Version) (ps : List ℕ) (ts us : List Touch) (v : Version) (t : Touch) → SplitsEnds from xs ps a → SplitsEnds to xs ps b → a ≤ k → k < b → slice_get ps k ≡ Some place → slice_get xs place ≡ Some v → v.end ≡ Some end → t ≡ record { commit = end; row = v.row; place = place } → us ≡ ts ++ t ∷ []
+    → HasOnly from to xs ts → HasBegins from to xs ts bound → HasEnds from to xs ps ts k → HasOnly from to xs us × HasBegins from to xs us bound × HasEnds from to xs ps us (k + 1)
+end-turn from to a b k place end bound xs ps ts us v t s r low high found at is_end is grown only begins ends =
+    subst (λ l. HasOnly from to xs l × HasBegins from to xs l bound × HasEnds from to xs ps l (k + 1)) (sym grown)
+    (only-push from to xs ts t only (subst (λ (z : Touch). IsTouch from to xs z) (sym is) (end_touch from to a b k place end xs ps v s r low high found at is_end)), begins-push from to xs ts t bound begins, ends-more from to xs ts ps k place end v t found at is_end is ends)
+
+pub none-yet : (from to : ℕ) (xs : List Version) → HasOnly from to xs []
+none-yet from to xs = record { only = λ t c. absurd (no_touch t c) }

@@ -75,3 +75,12 @@ last-starts row n place xs last = record {
   named = last.named;
   above = λ k w gt there e. absurd (last.later k w (omega arith) (slice_get_within xs k w there) there e);
 }
+
+-- a version of the row may be asked for at an earlier number too
+pub starts-before : (row n m place : ℕ) (xs : List Version) → m ≤ n → StartsAt row n xs place → StartsAt row m xs place
+starts-before row n m place xs le s = record {
+  version = s.version;
+  there = s.there;
+  named = s.named;
+  above = λ k w gt there e. omega (arith, s.above k w gt there e);
+}
