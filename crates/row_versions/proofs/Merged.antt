@@ -1,8 +1,9 @@
 -- One change for each commit and row, from the commits at which versions begin and end, in order.
-use Rattle.std.proofs.Common.{◌≡◌, ◌≢◌, ℕ, zero, suc, ◌+◌, ◌-◌, ◌<◌, ◌≤◌, ◌⊎◌, inl, inr, true, false, List, [], ◌∷◌, ◌++◌, length, Option, Some, None, slice_get, get_or, refl, sym, ap, subst, ◌∙◌, arith}
+use Rattle.std.proofs.Common.{◌≡◌, ◌≢◌, ℕ, zero, suc, ◌+◌, ◌-◌, ◌<◌, ◌≤◌, ◌⊎◌, inl, inr, Bool, true, false, cond, ◌==◌, Ordering, Less, Equal, Greater, is_lt, nat_cmp, List, [], ◌∷◌, ◌++◌, length, Option, Some, None, slice_get, get_or, refl, sym, ap, subst, ◌∙◌, arith}
 use Rattle.std.specs.List.{Contains}
 use Rattle.std.specs.List.Sorted.{IsPermutation}
-use Rattle.std.proofs.lemmas.Bool.{cases_eq, cases_lt, cases_order}
+use Rattle.std.specs.Ordering.{ordering_then}
+use Rattle.std.proofs.lemmas.Bool.{cases_eq, cases_lt, cases_order, lt-ltb, le-ltb, eq-eqb, true≢false}
 use Rattle.std.proofs.lemmas.List.Sorted.{Contains-permutation, IsPermutation-sym}
 use Rattle.std.proofs.lemmas.Option.{slice_get_within, slice_get-get_or, get_or_from_slice_get}
 use Rattle.row_versions.specs.declared.version.Version.{Version}
@@ -244,3 +245,26 @@ merged-all from to at xs ts out a m le = record {
     by : (commit row : ℕ) {place : ℕ} → HasChange out (record { commit = commit; row = row; place = place }) ⊎ ((u : Touch) × (slice_get ts at ≡ Some u) × AreAlike (record { commit = commit; row = row; place = place }) u) → (i : ℕ) × (c : Change) × (slice_get out i ≡ Some c) × (c.commit ≡ commit) × (c.row ≡ row)
     by commit row (inl h) = (h.place, h.change, h.there, h.commit, h.row)
     by commit row (inr w) = absurd (omega (arith, slice_get_within ts at w.0 w.1))
+
+-- ---- what a sort says
+
+first_by : (a b : ℕ) (o : Ordering) → is_lt (ordering_then (nat_cmp a b) o) ≡ false → (b < a) ⊎ ((b ≡ a) × (is_lt o ≡ false))
+first_by a b o h = by (cases_order a b)
+  where
+    by : (a ≡ b) ⊎ ((a < b) ⊎ (b < a)) → (b < a) ⊎ ((b ≡ a) × (is_lt o ≡ false))
+    by (inl e) = inr (sym e,
+      sym (ap (λ (x : Bool). is_lt (ordering_then (cond x Less (cond (a == b) Equal Greater)) o)) (le-ltb a b (omega arith)) ∙ ap (λ (x : Bool). is_lt (ordering_then (cond x Equal Greater) o)) (eq-eqb a b e)) ∙ h)
+    by (inr (inl lt)) = absurd (true≢false (sym (ap (λ (x : Bool). is_lt (ordering_then (cond x Less (cond (a == b) Equal Greater)) o)) (lt-ltb a b lt)) ∙ h))
+    by (inr (inr gt)) = inl gt
+
+last_by : (a b : ℕ) → is_lt (nat_cmp a b) ≡ false → b ≤ a
+last_by a b h = by (cases_lt a b)
+  where
+    by : (a < b) ⊎ (b ≤ a) → b ≤ a
+    by (inl lt) = absurd (true≢false (sym (ap (λ (x : Bool). is_lt (cond x Less (cond (a == b) Equal Greater))) (lt-ltb a b lt)) ∙ h))
+    by (inr ge) = ge
+
+pub not-after : (t u : Touch) → is_lt (ordering_then (nat_cmp u.commit t.commit) (ordering_then (nat_cmp u.row t.row) (nat_cmp u.place t.place))) ≡ false → NotAfter t u
+not-after t u h = elim (first_by u.commit t.commit (ordering_then (nat_cmp u.row t.row) (nat_cmp u.place t.place)) h) [
+  inl less ↦ inl less |
+  inr same ↦ inr (same.0, elim (first_by u.row t.row (nat_cmp u.place t.place) same.1) [ inl less ↦ inl less | inr alike ↦ inr (alike.0, last_by u.place t.place alike.1) ]) ]
