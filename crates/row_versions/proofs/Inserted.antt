@@ -25,8 +25,9 @@ get_with zero x ps le (suc j) y at = inr (j, at, inr (omega arith, refl))
 get_with (suc n) x [] le j y at = absurd (omega arith)
 get_with (suc n) x (p ∷ ps) le zero y at = inr (0, at, inl (omega arith, refl))
 get_with (suc n) x (p ∷ ps) le (suc j) y at = elim (get_with n x ps (omega arith) j y at) [
-  inl here ↦ inl (ap suc here.0, here.1) |
-  inr else ↦ inr (suc else.0, else.1, up n else.0 j else.2) ]
+  | inl here ↦ inl (ap suc here.0, here.1)
+  | inr else ↦ inr (suc else.0, else.1, up n else.0 j else.2)
+]
 
 with_get : (at x : ℕ) (ps : List ℕ) → at ≤ length ps → (i y : ℕ) → slice_get ps i ≡ Some y → (j : ℕ) × (slice_get (with_place at x ps) j ≡ Some y)
 with_get zero x ps le i y at = (suc i, at)
@@ -76,8 +77,9 @@ module _ (xs : List Version) (ps : List ℕ) (k commit at : ℕ) (v : Version) (
 
   back : (p e : ℕ) → HasEnd (set xs k (ended commit v)) p e → ((p ≡ k) × (e ≡ commit)) ⊎ ((p ≡ k → ⊥) × HasEnd xs p e)
   back p e h = elim (get-set xs k (ended commit v) p h.version h.there) [
-    inl is ↦ inl (is.0, let same : Some commit ≡ Some e = ap (λ (u : Version). u.end) (sym is.1) ∙ h.at in cc) |
-    inr ne ↦ inr (ne.0, record { version = h.version; there = ne.1; at = h.at }) ]
+    | inl is ↦ inl (is.0, let same : Some commit ≡ Some e = ap (λ (u : Version). u.end) (sym is.1) ∙ h.at in cc)
+    | inr ne ↦ inr (ne.0, record { version = h.version; there = ne.1; at = h.at })
+  ]
 
   back_here : (e : ℕ) → HasEnd (set xs k (ended commit v)) k e → e ≡ commit
   back_here e h = elim (back k e h) [ inl is ↦ is.1 | inr ne ↦ absurd (ne.0 refl) ]

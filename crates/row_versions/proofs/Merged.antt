@@ -109,6 +109,7 @@ module _ (from to : ℕ) (xs : List Version) (ts : List Touch) (out : List Chang
       later : (u : Touch) → HasChange out u ⊎ ((w : Touch) × (slice_get ts at ≡ Some w) × AreAlike u w) → HasChange out u ⊎ ((w : Touch) × (slice_get ts (at + 1) ≡ Some w) × AreAlike u w)
       later u (inl has) = inl has
       later u (inr w) = let is = same_here at w.0 refl w.1 in inr (next, behind, (w.2.0 ∙ ap (λ (z : Touch). z.commit) is ∙ alike.0, w.2.1 ∙ ap (λ (z : Touch). z.row) is ∙ alike.1))
+
       by : (j : ℕ) (u : Touch) → j < at + 1 → slice_get ts j ≡ Some u → (j < at) ⊎ (at ≤ j) → HasChange out u ⊎ ((w : Touch) × (slice_get ts (at + 1) ≡ Some w) × AreAlike u w)
       by j u lt there (inl less) = later u (m.covered j u less there)
       by j u lt there (inr ge) = let is = same_here j u (omega arith) there in inr (next, behind, (ap (λ (z : Touch). z.commit) is ∙ alike.0, ap (λ (z : Touch). z.row) is ∙ alike.1))
@@ -142,8 +143,9 @@ module _ (from to : ℕ) (xs : List Version) (ts : List Touch) (order : AreInOrd
   reaches o i k w gt there e =
       let h = o.follow t.place k i.version w gt i.there there (i.named ∙ sym e) in
       elim i.at [
-        inl begin ↦ omega (arith, begin, o.last t.place i.version h.0 i.there h.1, h.2) |
-        inr end ↦ let same : Some h.0 ≡ Some t.commit = sym h.1 ∙ end in let is : h.0 ≡ t.commit = cc in omega (arith, h.2) ]
+        | inl begin ↦ omega (arith, begin, o.last t.place i.version h.0 i.there h.1, h.2)
+        | inr end ↦ let same : Some h.0 ≡ Some t.commit = sym h.1 ∙ end in let is : h.0 ≡ t.commit = cc in omega (arith, h.2)
+      ]
 
   -- no later version of the row begins at the commit
   none_begins : (k : ℕ) (w : Version) → t.place < k → slice_get xs k ≡ Some w → w.row ≡ t.row → w.begin ≡ t.commit → ⊥
@@ -156,6 +158,7 @@ module _ (from to : ℕ) (xs : List Version) (ts : List Touch) (order : AreInOrd
       before_it : NotAfter (record { commit = t.commit; row = t.row; place = k }) t → ⊥
       before_it (inl less) = absurd (omega arith)
       before_it (inr same) = elim same.1 [ inl less ↦ absurd (omega arith) | inr place ↦ absurd (omega (arith, place.1)) ]
+
       by : (j : ℕ) → slice_get ts j ≡ Some (record { commit = t.commit; row = t.row; place = k }) → (j ≡ at) ⊎ ((j < at) ⊎ (at < j)) → ⊥
       by j at_j (inl is) =
           let same : ◌≡◌ {A = Option Touch} (Some (record { commit = t.commit; row = t.row; place = k })) (Some t) = sym at_j ∙ ap (slice_get ts) is ∙ here in
@@ -171,8 +174,9 @@ module _ (from to : ℕ) (xs : List Version) (ts : List Touch) (order : AreInOrd
     there = touch-here.there;
     named = touch-here.named;
     above = λ k w gt there e. elim (cases_eq w.begin t.commit) [
-      inl is ↦ absurd (none_begins k w gt there e is) |
-      inr ne ↦ omega (arith, reaches o touch-here k w gt there e) ];
+      | inl is ↦ absurd (none_begins k w gt there e is)
+      | inr ne ↦ omega (arith, reaches o touch-here k w gt there e)
+    ];
   }
 
   module _ (out : List Change) (m : IsMerged from to xs ts out at) (c : Change) (is : c ≡ record { row = t.row; commit = t.commit; before = visible t.row (t.commit - 1) xs; after = visible t.row t.commit xs }) where
@@ -237,9 +241,9 @@ merged-all from to at xs ts out a m le = record {
   each = m.each;
   rise = m.rise;
   all = λ place commit v there touches above within.
-    let t : Touch = record { commit = commit; row = v.row; place = place } in
-    let f = found ts t (a.all t (record { above = above; within = within; version = v; there = there; named = refl; at = touches })) in
-    by commit v.row (m.covered f.0 t (omega (arith, slice_get_within ts f.0 t f.1)) f.1);
+      let t : Touch = record { commit = commit; row = v.row; place = place } in
+      let f = found ts t (a.all t (record { above = above; within = within; version = v; there = there; named = refl; at = touches })) in
+      by commit v.row (m.covered f.0 t (omega (arith, slice_get_within ts f.0 t f.1)) f.1);
 }
   where
     by : (commit row : ℕ) {place : ℕ} → HasChange out (record { commit = commit; row = row; place = place }) ⊎ ((u : Touch) × (slice_get ts at ≡ Some u) × AreAlike (record { commit = commit; row = row; place = place }) u) → (i : ℕ) × (c : Change) × (slice_get out i ≡ Some c) × (c.commit ≡ commit) × (c.row ≡ row)
@@ -252,8 +256,10 @@ first_by : (a b : ℕ) (o : Ordering) → is_lt (ordering_then (nat_cmp a b) o) 
 first_by a b o h = by (cases_order a b)
   where
     by : (a ≡ b) ⊎ ((a < b) ⊎ (b < a)) → (b < a) ⊎ ((b ≡ a) × (is_lt o ≡ false))
-    by (inl e) = inr (sym e,
-      sym (ap (λ (x : Bool). is_lt (ordering_then (cond x Less (cond (a == b) Equal Greater)) o)) (le-ltb a b (omega arith)) ∙ ap (λ (x : Bool). is_lt (ordering_then (cond x Equal Greater) o)) (eq-eqb a b e)) ∙ h)
+    by (inl e) = inr (
+      sym e,
+      sym (ap (λ (x : Bool). is_lt (ordering_then (cond x Less (cond (a == b) Equal Greater)) o)) (le-ltb a b (omega arith)) ∙ ap (λ (x : Bool). is_lt (ordering_then (cond x Equal Greater) o)) (eq-eqb a b e)) ∙ h,
+    )
     by (inr (inl lt)) = absurd (true≢false (sym (ap (λ (x : Bool). is_lt (ordering_then (cond x Less (cond (a == b) Equal Greater)) o)) (lt-ltb a b lt)) ∙ h))
     by (inr (inr gt)) = inl gt
 
@@ -266,5 +272,6 @@ last_by a b h = by (cases_lt a b)
 
 pub not-after : (t u : Touch) → is_lt (ordering_then (nat_cmp u.commit t.commit) (ordering_then (nat_cmp u.row t.row) (nat_cmp u.place t.place))) ≡ false → NotAfter t u
 not-after t u h = elim (first_by u.commit t.commit (ordering_then (nat_cmp u.row t.row) (nat_cmp u.place t.place)) h) [
-  inl less ↦ inl less |
-  inr same ↦ inr (same.0, elim (first_by u.row t.row (nat_cmp u.place t.place) same.1) [ inl less ↦ inl less | inr alike ↦ inr (alike.0, last_by u.place t.place alike.1) ]) ]
+  | inl less ↦ inl less
+  | inr same ↦ inr (same.0, elim (first_by u.row t.row (nat_cmp u.place t.place) same.1) [ inl less ↦ inl less | inr alike ↦ inr (alike.0, last_by u.place t.place alike.1) ])
+]

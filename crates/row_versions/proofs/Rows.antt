@@ -111,10 +111,10 @@ module _ (xs ys : List Version) (s : HaveRows xs ys) where
     each = λ row p there. subst (λ n. IsPlaceOfLast row ys n p) s.long (last_there row (length xs) p (a.each row p there));
     early = λ i w at. let u = s.from i w at in let b = a.early i u.0 u.1 in omega (arith, u.2);
     next = λ i k w z at other lt there.
-      let u = s.from i w at in
-      let y = s.from k z there in
-      let n = a.next i k u.0 y.0 u.1 (subst (λ r. AreOther r xs 0 i) (sym u.2) (other_back w.row 0 i other)) lt y.1 in
-      omega (arith, u.2, y.2);
+        let u = s.from i w at in
+        let y = s.from k z there in
+        let n = a.next i k u.0 y.0 u.1 (subst (λ r. AreOther r xs 0 i) (sym u.2) (other_back w.row 0 i other)) lt y.1 in
+        omega (arith, u.2, y.2);
   }
 
 pub rows-set : (xs : List Version) (k : ℕ) (v w : Version) → slice_get xs k ≡ Some v → w.row ≡ v.row → HaveRows xs (set xs k w)
@@ -122,8 +122,9 @@ rows-set xs k v w at same = record {
   long = sym (length-set xs k w);
   to = λ i u there. forth i u there (cases_eq i k);
   from = λ i u there. elim (get-set xs k w i u there) [
-    inl here ↦ (v, ap (slice_get xs) here.0 ∙ at, sym same ∙ ap (λ (z : Version). z.row) (sym here.1)) |
-    inr else ↦ (u, else.1, refl) ];
+    | inl here ↦ (v, ap (slice_get xs) here.0 ∙ at, sym same ∙ ap (λ (z : Version). z.row) (sym here.1))
+    | inr else ↦ (u, else.1, refl)
+  ];
 }
   where
     forth : (i : ℕ) (u : Version) → slice_get xs i ≡ Some u → (i ≡ k) ⊎ (i ≡ k → ⊥) → (z : Version) × (slice_get (set xs k w) i ≡ Some z) × (z.row ≡ u.row)
@@ -175,8 +176,9 @@ module _ (xs : List Version) (lasts : List ℕ) (v : Version) (a : AreNewest xs 
     there = get-front xs v p h.version h.there;
     named = h.named;
     later = λ k w le lt at. elim (get-push xs v k w at) [
-      inl old ↦ h.later k w le (slice_get_within xs k w old) old |
-      inr new ↦ λ e. ne (sym e ∙ ap (λ (u : Version). u.row) new.1) ];
+      | inl old ↦ h.later k w le (slice_get_within xs k w old) old
+      | inr new ↦ λ e. ne (sym e ∙ ap (λ (u : Version). u.row) new.1)
+    ];
   }
 
   old_next : (i k : ℕ) (w u : Version) → slice_get xs i ≡ Some w → AreOther w.row (xs ++ v ∷ []) 0 i → k < i → slice_get (xs ++ v ∷ []) k ≡ Some u → u.row < w.row
@@ -189,8 +191,9 @@ module _ (xs : List Version) (lasts : List ℕ) (v : Version) (a : AreNewest xs 
   note_old : (p : ℕ) → slice_get lasts v.row ≡ Some p → AreNewest (xs ++ v ∷ []) (set lasts v.row (length xs))
   note_old p known = record {
     below = λ i w at. elim (get-push xs v i w at) [
-      inl old ↦ omega (arith, a.below i w old, length-set lasts v.row (length xs)) |
-      inr new ↦ let r : w.row ≡ v.row = ap (λ (u : Version). u.row) new.1 in omega (arith, slice_get_within lasts v.row p known, length-set lasts v.row (length xs)) ];
+      | inl old ↦ omega (arith, a.below i w old, length-set lasts v.row (length xs))
+      | inr new ↦ let r : w.row ≡ v.row = ap (λ (u : Version). u.row) new.1 in omega (arith, slice_get_within lasts v.row p known, length-set lasts v.row (length xs))
+    ];
     each = λ row q there. each_by row q (get-set lasts v.row (length xs) row q there);
     early = early_push;
     next = λ i k w u at other lt there. next_by i k w u other lt there (get-push xs v i w at);
@@ -199,6 +202,7 @@ module _ (xs : List Version) (lasts : List ℕ) (v : Version) (a : AreNewest xs 
       each_by : (row q : ℕ) → ((row ≡ v.row) × (q ≡ length xs)) ⊎ ((row ≡ v.row → ⊥) × (slice_get lasts row ≡ Some q)) → IsPlaceOfLast row (xs ++ v ∷ []) (length (xs ++ v ∷ [])) q
       each_by row q (inl here) = subst (λ r. IsPlaceOfLast r (xs ++ v ∷ []) (length (xs ++ v ∷ [])) q) (sym here.0) (subst (λ z. IsPlaceOfLast v.row (xs ++ v ∷ []) (length (xs ++ v ∷ [])) z) (sym here.1) here_last)
       each_by row q (inr else) = still_last row q else.0 (a.each row q else.1)
+
       next_by : (i k : ℕ) (w u : Version) → AreOther w.row (xs ++ v ∷ []) 0 i → k < i → slice_get (xs ++ v ∷ []) k ≡ Some u → (slice_get xs i ≡ Some w) ⊎ ((i ≡ length xs) × (w ≡ v)) → u.row < w.row
       next_by i k w u other lt there (inl old) = old_next i k w u old other lt there
       next_by i k w u other lt there (inr new) =
@@ -208,8 +212,9 @@ module _ (xs : List Version) (lasts : List ℕ) (v : Version) (a : AreNewest xs 
   note_new : slice_get lasts v.row ≡ None → AreNewest (xs ++ v ∷ []) (lasts ++ length xs ∷ [])
   note_new none = record {
     below = λ i w at. elim (get-push xs v i w at) [
-      inl old ↦ omega (arith, a.below i w old, length-append lasts (length xs ∷ [])) |
-      inr new ↦ let r : w.row ≡ v.row = ap (λ (u : Version). u.row) new.1 in omega (arith, most, length-append lasts (length xs ∷ [])) ];
+      | inl old ↦ omega (arith, a.below i w old, length-append lasts (length xs ∷ []))
+      | inr new ↦ let r : w.row ≡ v.row = ap (λ (u : Version). u.row) new.1 in omega (arith, most, length-append lasts (length xs ∷ []))
+    ];
     each = λ row q there. each_by row q (get-push lasts (length xs) row q there);
     early = early_push;
     next = λ i k w u at other lt there. next_by i k w u other lt there (get-push xs v i w at);
@@ -217,18 +222,22 @@ module _ (xs : List Version) (lasts : List ℕ) (v : Version) (a : AreNewest xs 
     where
       next_row : v.row ≡ length lasts
       next_row = elim (cases_lt v.row (length lasts)) [
-        inl lt ↦ let p = get-within lasts v.row lt in let impossible : None ≡ Some p.0 = sym none ∙ p.1 in absurd (cc) |
-        inr ge ↦ omega (arith, most) ]
+        | inl lt ↦ let p = get-within lasts v.row lt in let impossible : None ≡ Some p.0 = sym none ∙ p.1 in absurd (cc)
+        | inr ge ↦ omega (arith, most)
+      ]
+
       each_by : (row q : ℕ) → (slice_get lasts row ≡ Some q) ⊎ ((row ≡ length lasts) × (q ≡ length xs)) → IsPlaceOfLast row (xs ++ v ∷ []) (length (xs ++ v ∷ [])) q
       each_by row q (inl old) = still_last row q (λ e. let l = slice_get_within lasts row q old in absurd (omega (arith, next_row))) (a.each row q old)
       each_by row q (inr new) = subst (λ r. IsPlaceOfLast r (xs ++ v ∷ []) (length (xs ++ v ∷ [])) q) (next_row ∙ sym new.0) (subst (λ z. IsPlaceOfLast v.row (xs ++ v ∷ []) (length (xs ++ v ∷ [])) z) (sym new.1) here_last)
+
       next_by : (i k : ℕ) (w u : Version) → AreOther w.row (xs ++ v ∷ []) 0 i → k < i → slice_get (xs ++ v ∷ []) k ≡ Some u → (slice_get xs i ≡ Some w) ⊎ ((i ≡ length xs) × (w ≡ v)) → u.row < w.row
       next_by i k w u other lt there (inl old) = old_next i k w u old other lt there
       next_by i k w u other lt there (inr new) =
           let r : w.row ≡ v.row = ap (λ (z : Version). z.row) new.1 in
           elim (get-push xs v k u there) [
-            inl old ↦ omega (arith, a.below k u old, next_row) |
-            inr behind ↦ absurd (let e = new.0 in let f = behind.0 in omega arith) ]
+            | inl old ↦ omega (arith, a.below k u old, next_row)
+            | inr behind ↦ absurd (let e = new.0 in let f = behind.0 in omega arith)
+          ]
 
   note_by : (o : Option ℕ) → slice_get lasts v.row ≡ o → AreNewest (xs ++ v ∷ []) (cond (is_some o) (set lasts v.row (length xs)) (lasts ++ length xs ∷ []))
   note_by None e = note_new e

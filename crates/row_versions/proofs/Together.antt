@@ -51,8 +51,9 @@ append-keeps xs ls lasts ends horizon room more row commit b latest none most ne
     ordered = ordered_push xs row commit b.kept.ordered latest none;
     few = let f = b.kept.few in omega (arith, length-append xs (begun row commit ∷ []));
     emptied = λ i v at gone. elim (get-push xs (begun row commit) i v at) [
-      inl old ↦ b.kept.emptied i v old gone |
-      inr new ↦ absurd (false≢true (ap (λ (u : Version). u.emptied) (sym new.1) ∙ gone)) ];
+      | inl old ↦ b.kept.emptied i v old gone
+      | inr new ↦ absurd (false≢true (ap (λ (u : Version). u.emptied) (sym new.1) ∙ gone))
+    ];
   };
   linked = linked-push xs (begun row commit) ls (slice_get lasts row) (link-of row xs lasts b.newest) b.linked;
   newest = newest-push xs lasts (begun row commit) b.newest (omega (arith, rows-are xs lasts b.newest));
@@ -68,7 +69,7 @@ pub appended-together : (before after : Linked) (lasts grown news ends more_ends
 appended-together before after lasts grown news ends more_ends horizon room more row commit place version link b latest none most at ne fits made begins linked same noting kept =
     let k = append-keeps before.versions before.links lasts ends horizon room more row commit b latest none most (λ e. ne (at ∙ e)) fits in
     let whole : after ≡ record { versions = before.versions ++ begun row commit ∷ []; links = before.links ++ slice_get lasts row ∷ [] } =
-      made ∙ ap (λ (v : Version). record { versions = before.versions ++ v ∷ []; links = before.links ++ link ∷ [] }) begins ∙ ap (λ (l : Option ℕ). record { versions = before.versions ++ begun row commit ∷ []; links = before.links ++ l ∷ [] }) linked in
+    made ∙ ap (λ (v : Version). record { versions = before.versions ++ v ∷ []; links = before.links ++ link ∷ [] }) begins ∙ ap (λ (l : Option ℕ). record { versions = before.versions ++ begun row commit ∷ []; links = before.links ++ l ∷ [] }) linked in
     let noted_is : news ≡ noted row (length before.versions) lasts = noting ∙ ap (noted row place) same ∙ ap (λ p. noted row p lasts) at in
     subst (λ (l : Linked). BelongTogether l.versions l.links news more_ends horizon more) (sym whole)
     (subst (λ z. BelongTogether (before.versions ++ begun row commit ∷ []) (before.links ++ slice_get lasts row ∷ []) z more_ends horizon more) (sym noted_is)
@@ -80,8 +81,9 @@ module _ (xs : List Version) (k commit : ℕ) (v : Version) (o : AreOrdered xs) 
   -- a version of the changed list is one of the list before, or the ended one
   was : (i : ℕ) (w : Version) → slice_get (set xs k (ended commit v)) i ≡ Some w → (u : Version) × (slice_get xs i ≡ Some u) × (w.row ≡ u.row) × (w.begin ≡ u.begin)
   was i w there = elim (get-set xs k (ended commit v) i w there) [
-    inl here ↦ (v, ap (slice_get xs) here.0 ∙ at, ap (λ (u : Version). u.row) here.1, ap (λ (u : Version). u.begin) here.1) |
-    inr else ↦ (w, else.1, refl, refl) ]
+    | inl here ↦ (v, ap (slice_get xs) here.0 ∙ at, ap (λ (u : Version). u.row) here.1, ap (λ (u : Version). u.begin) here.1)
+    | inr else ↦ (w, else.1, refl, refl)
+  ]
 
   last_by : (i : ℕ) (w : Version) (end : ℕ) → w.end ≡ Some end → ((i ≡ k) × (w ≡ ended commit v)) ⊎ ((i ≡ k → ⊥) × (slice_get xs i ≡ Some w)) → w.begin ≤ end
   last_by i w end e (inl here) = let c : Some commit ≡ Some end = ap (λ (u : Version). u.end) (sym here.1) ∙ e in let same : commit ≡ end = cc in let b : w.begin ≡ v.begin = ap (λ (u : Version). u.begin) here.1 in omega arith
@@ -109,8 +111,9 @@ end-keeps xs ls lasts ends horizon room k commit at v b there none begins s = re
     ordered = ordered-set xs k commit v b.kept.ordered there none begins;
     few = let f = b.kept.few in omega (arith, length-set xs k (ended commit v));
     emptied = λ i w found gone. elim (get-set xs k (ended commit v) i w found) [
-      inl here ↦ let h = b.kept.emptied k v there (ap (λ (u : Version). u.emptied) (sym here.1) ∙ gone) in let impossible : None ≡ Some h.0 = sym none ∙ h.1 in absurd (cc) |
-      inr else ↦ b.kept.emptied i w else.1 gone ];
+      | inl here ↦ let h = b.kept.emptied k v there (ap (λ (u : Version). u.emptied) (sym here.1) ∙ gone) in let impossible : None ≡ Some h.0 = sym none ∙ h.1 in absurd (cc)
+      | inr else ↦ b.kept.emptied i w else.1 gone
+    ];
   };
   linked = linked-rows xs (set xs k (ended commit v)) (rows-set xs k v (ended commit v) there refl) ls b.linked;
   newest = newest-rows xs (set xs k (ended commit v)) (rows-set xs k v (ended commit v) there refl) lasts b.newest;
@@ -127,18 +130,19 @@ end-fits xs ls lasts ends horizon room k v b there none = omega (arith, b.fits, 
 module _ (xs : List Version) (k : ℕ) (v : Version) (o : AreOrdered xs) (at : slice_get xs k ≡ Some v) where
   same_but : (i : ℕ) (w : Version) → slice_get (set xs k (given_up v)) i ≡ Some w → (u : Version) × (slice_get xs i ≡ Some u) × (w.row ≡ u.row) × (w.begin ≡ u.begin) × (w.end ≡ u.end)
   same_but i w there = elim (get-set xs k (given_up v) i w there) [
-    inl here ↦ (v, ap (slice_get xs) here.0 ∙ at, ap (λ (u : Version). u.row) here.1, ap (λ (u : Version). u.begin) here.1, ap (λ (u : Version). u.end) here.1) |
-    inr else ↦ (w, else.1, refl, refl, refl) ]
+    | inl here ↦ (v, ap (slice_get xs) here.0 ∙ at, ap (λ (u : Version). u.row) here.1, ap (λ (u : Version). u.begin) here.1, ap (λ (u : Version). u.end) here.1)
+    | inr else ↦ (w, else.1, refl, refl, refl)
+  ]
 
   ordered_emptied : AreOrdered (set xs k (given_up v))
   ordered_emptied = record {
     rise = λ i j a b lt found there. let u = same_but i a found in let w = same_but j b there in omega (arith, o.rise i j u.0 w.0 lt u.1 w.1, u.3, w.3);
     last = λ i w end found e. let u = same_but i w found in omega (arith, o.last i u.0 end u.1 (sym u.4 ∙ e), u.3);
     follow = λ i j a b lt found there e.
-      let u = same_but i a found in
-      let w = same_but j b there in
-      let h = o.follow i j u.0 w.0 lt u.1 w.1 (sym u.2 ∙ e ∙ w.2) in
-      (h.0, u.4 ∙ h.1, omega (arith, h.2, w.3));
+        let u = same_but i a found in
+        let w = same_but j b there in
+        let h = o.follow i j u.0 w.0 lt u.1 w.1 (sym u.2 ∙ e ∙ w.2) in
+        (h.0, u.4 ∙ h.1, omega (arith, h.2, w.3));
   }
 
 pub empty-keeps : (xs : List Version) (ls : List (Option ℕ)) (lasts ends : List ℕ) (horizon room k to : ℕ) (v : Version) → BelongTogether xs ls lasts ends horizon room → slice_get xs k ≡ Some v → HasEndedBy to v → BelongTogether (set xs k (given_up v)) ls lasts ends (max horizon to) room
@@ -147,8 +151,9 @@ empty-keeps xs ls lasts ends horizon room k to v b there h = record {
     ordered = ordered_emptied xs k v b.kept.ordered there;
     few = let f = b.kept.few in omega (arith, length-set xs k (given_up v));
     emptied = λ i w found gone. elim (get-set xs k (given_up v) i w found) [
-      inl here ↦ (h.0, ap (λ (u : Version). u.end) here.1 ∙ h.1, omega (arith, h.2)) |
-      inr else ↦ by-then horizon (max horizon to) w (b.kept.emptied i w else.1 gone) (omega arith) ];
+      | inl here ↦ (h.0, ap (λ (u : Version). u.end) here.1 ∙ h.1, omega (arith, h.2))
+      | inr else ↦ by-then horizon (max horizon to) w (b.kept.emptied i w else.1 gone) (omega arith)
+    ];
   };
   linked = linked-rows xs (set xs k (given_up v)) (rows-set xs k v (given_up v) there refl) ls b.linked;
   newest = newest-rows xs (set xs k (given_up v)) (rows-set xs k v (given_up v) there refl) lasts b.newest;

@@ -93,10 +93,11 @@ pub all-touches : (from to at bound : ℕ) (xs : List Version) (ps : List ℕ) (
 all-touches from to at bound xs ps ts a s le only begins ends = record {
   only = only.only;
   all = λ t i. elim i.at [
-    inl begin ↦ begins.has t i begin (slice_get_within xs t.place i.version i.there) |
-    inr end ↦
-      let k = a.all t.place i.version t.commit i.there end in
-      by t i end k.0 k.1 (cases_lt k.0 at) ];
+    | inl begin ↦ begins.has t i begin (slice_get_within xs t.place i.version i.there)
+    | inr end ↦
+        let k = a.all t.place i.version t.commit i.there end in
+        by t i end k.0 k.1 (cases_lt k.0 at)
+  ];
 }
   where
     by : (t : Touch) (i : IsTouch from to xs t) → i.version.end ≡ Some t.commit → (k : ℕ) → slice_get ps k ≡ Some t.place → (k < at) ⊎ (at ≤ k) → Contains ts t

@@ -76,10 +76,10 @@ fn change_at(list: &VersionList, touch: &Touch) -> Change
     requires some { 0 < touch.now.commit }
     requires start { StartsAt touch.now.row touch.now.commit list.now.versions touch.now.place }
     ensures exact { result ≡ record {
-        row = touch.now.row;
-        commit = touch.now.commit;
-        before = visible touch.now.row (touch.now.commit - 1) list.now.versions;
-        after = visible touch.now.row touch.now.commit list.now.versions;
+      row = touch.now.row;
+      commit = touch.now.commit;
+      before = visible touch.now.row (touch.now.commit - 1) list.now.versions;
+      after = visible touch.now.row touch.now.commit list.now.versions;
     } }
 {
     Change {

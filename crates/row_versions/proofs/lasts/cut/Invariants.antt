@@ -7,7 +7,7 @@ abbrev pub invariant-loop-last : goal.invariant-loop-last
 invariant-loop-last l = record {
   cutting : IsCutting l.commit l.fn.list.versions l.list.versions;
   linked : AreLinked l.list.versions l.list.links;
-  newest : AreNewest l.list.versions l.lasts.items
+  newest : AreNewest l.list.versions l.lasts.items;
 }
 
 abbrev pub decreases-loop-last : goal.decreases-loop-last

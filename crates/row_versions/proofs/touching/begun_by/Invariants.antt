@@ -7,7 +7,7 @@ invariant-loop-low l = record {
   order : l.low ≤ l.high;
   within : l.high ≤ length l.list.versions;
   below : (i : ℕ) (v : Version) → i < l.low → slice_get l.list.versions i ≡ Some v → v.begin ≤ l.n;
-  above : (i : ℕ) (v : Version) → l.high ≤ i → slice_get l.list.versions i ≡ Some v → l.n < v.begin
+  above : (i : ℕ) (v : Version) → l.high ≤ i → slice_get l.list.versions i ≡ Some v → l.n < v.begin;
 }
 
 abbrev pub decreases-loop-low : goal.decreases-loop-low

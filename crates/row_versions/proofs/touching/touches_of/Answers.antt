@@ -12,7 +12,7 @@ pub loop-place-preserved : goal.loop-place-preserved
 loop-place-preserved c =
     let v = get-within c.args.list.now.versions c.loop-place.place (omega (arith, c.loop-place-test.true, c.begun_by-place-end.ensures.within)) in
     let turn = begin-turn c.args.from c.args.to c.begun_by-place.result c.begun_by-place-end.result c.loop-place.place c.args.list.now.versions c.loop-place.touches.items c.push.new.self.items v.0 c.beginning.result c.begun_by-place.ensures.exact c.begun_by-place-end.ensures.exact
-      c.loop-place.auto.place c.loop-place-test.true v.1 (c.beginning.ensures.exact v.0 v.1) c.in_ok-push.ensures.items c.loop-place.invariant.only c.loop-place.invariant.begins in
+    c.loop-place.auto.place c.loop-place-test.true v.1 (c.beginning.ensures.exact v.0 v.1) c.in_ok-push.ensures.items c.loop-place.invariant.only c.loop-place.invariant.begins in
     record { only = turn.0; begins = turn.1 }
 
 pub loop-at-init : goal.loop-at-init
@@ -30,7 +30,7 @@ loop-at-preserved c =
     let lt : c.loop-at.at < length c.args.ended.now = omega (arith, c.loop-at-test.true, c.ended_by-at-end.ensures.exact.within) in
     let h = place-has c.args.list.now.versions c.args.ended.now c.requires.ends c.loop-at.at lt in
     let turn = end-turn c.args.from c.args.to c.ended_by-at.result c.ended_by-at-end.result c.loop-at.at (get_or c.args.ended.now c.loop-at.at 0) h.0 (length c.args.list.now.versions) c.args.list.now.versions c.args.ended.now c.loop-at.touches.items c.push-in-loop-at.new.self.items h.1.version c.ending.result
-      c.ended_by-at.ensures.exact c.ended_by-at-end.ensures.exact c.loop-at.auto.at c.loop-at-test.true (slice_get-get_or c.args.ended.now c.loop-at.at 0 lt) h.1.there h.1.at (c.ending.ensures.exact h.1.version h.0 h.1.there h.1.at) c.in_ok-push-2.ensures.items c.loop-at.invariant.only c.loop-at.invariant.begins c.loop-at.invariant.ends in
+    c.ended_by-at.ensures.exact c.ended_by-at-end.ensures.exact c.loop-at.auto.at c.loop-at-test.true (slice_get-get_or c.args.ended.now c.loop-at.at 0 lt) h.1.there h.1.at (c.ending.ensures.exact h.1.version h.0 h.1.there h.1.at) c.in_ok-push-2.ensures.items c.loop-at.invariant.only c.loop-at.invariant.begins c.loop-at.invariant.ends in
     record { only = turn.0; begins = turn.1; ends = turn.2 }
 
 pub returns : goal.returns
