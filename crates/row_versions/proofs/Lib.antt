@@ -3,6 +3,7 @@ pub mod EndPlaces
 pub mod Inserted
 pub mod LastPlaces
 pub mod Merged
+pub mod Newest
 pub mod Places
 pub mod Reopened
 pub mod RolledBack

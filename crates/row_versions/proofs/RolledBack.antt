@@ -140,9 +140,9 @@ roll-backs-show = record {
 
 -- ---- a roll back keeps the order
 
-end_kept : (commit end : ℕ) (o : Option ℕ) → end_before commit o ≡ Some end → (o ≡ Some end) × (end < commit)
-end_kept commit end None h = absurd (cc)
-end_kept commit end (Some x) h = by (cases_lt x commit)
+pub end-kept : (commit end : ℕ) (o : Option ℕ) → end_before commit o ≡ Some end → (o ≡ Some end) × (end < commit)
+end-kept commit end None h = absurd (cc)
+end-kept commit end (Some x) h = by (cases_lt x commit)
   where
     by : (x < commit) ⊎ (commit ≤ x) → (◌≡◌ {A = Option ℕ} (Some x) (Some end)) × (end < commit)
     by (inl early) = let e : Some x ≡ Some end = sym (ap (λ b. cond b (Some x) None) (lt-ltb x commit early)) ∙ h in let s : x ≡ end = cc in (e, omega arith)
@@ -161,7 +161,7 @@ get-rolled commit xs rise i w at =
     record { version = h.0; there = b.0; early = b.1; is = h.2 }
 
 pub rolled-end : (commit : ℕ) (xs : List Version) (i : ℕ) (w : Version) (end : ℕ) (r : IsRolled commit xs i w) → w.end ≡ Some end → (r.version.end ≡ Some end) × (end < commit)
-rolled-end commit xs i w end r e = end_kept commit end r.version.end (ap (λ (u : Version). u.end) (sym r.is) ∙ e)
+rolled-end commit xs i w end r e = end-kept commit end r.version.end (ap (λ (u : Version). u.end) (sym r.is) ∙ e)
 
 begin_of : (commit : ℕ) (xs : List Version) (i : ℕ) (w : Version) (r : IsRolled commit xs i w) → w.begin ≡ r.version.begin
 begin_of commit xs i w r = ap (λ (u : Version). u.begin) r.is

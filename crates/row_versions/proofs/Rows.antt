@@ -20,10 +20,10 @@ rows_bound : (xs : List Version) (n : ℕ) → ((i : ℕ) (v : Version) → slic
 rows_bound [] n h = omega arith
 rows_bound (v ∷ xs) n h = omega (arith, h 0 v refl, rows_bound xs n (λ i w at. h (suc i) w at))
 
-row_below : (xs : List Version) (i : ℕ) (v : Version) → slice_get xs i ≡ Some v → v.row < rows_of xs
-row_below [] i v at = absurd (cc)
-row_below (x ∷ xs) zero v at = let is : x ≡ v = cc in let r : x.row ≡ v.row = ap (λ (u : Version). u.row) is in omega arith
-row_below (x ∷ xs) (suc i) v at = omega (arith, row_below xs i v at)
+pub row-below : (xs : List Version) (i : ℕ) (v : Version) → slice_get xs i ≡ Some v → v.row < rows_of xs
+row-below [] i v at = absurd (cc)
+row-below (x ∷ xs) zero v at = let is : x ≡ v = cc in let r : x.row ≡ v.row = ap (λ (u : Version). u.row) is in omega arith
+row-below (x ∷ xs) (suc i) v at = omega (arith, row-below xs i v at)
 
 pub rows-are : (xs : List Version) (lasts : List ℕ) → AreNewest xs lasts → rows_of xs ≡ length lasts
 rows-are xs lasts a = by (cases_lt (rows_of xs) (length lasts))
@@ -32,7 +32,7 @@ rows-are xs lasts a = by (cases_lt (rows_of xs) (length lasts))
     by (inl lt) =
         let p = get-within lasts (rows_of xs) lt in
         let h = a.each (rows_of xs) p.0 p.1 in
-        let b = row_below xs p.0 h.version h.there in
+        let b = row-below xs p.0 h.version h.there in
         absurd (omega (arith, h.named))
     by (inr ge) = omega (arith, rows_bound xs (length lasts) a.below)
 

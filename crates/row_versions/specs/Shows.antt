@@ -2,7 +2,7 @@
 use Rattle.std.specs.Prelude.{◌≡◌, ◌≢◌, ℕ, ◌-◌, ◌<◌, ◌≤◌, List, [], ◌∷◌, ◌++◌, length, Option, Some, None, slice_get}
 use Rattle.row_versions.specs.declared.version.Version.{Version}
 use Rattle.row_versions.specs.declared.version_id.VersionId.{VersionId}
-use Rattle.row_versions.specs.History.{version_at, visible, newest, begun, ended, given_up, changed, rolled_back}
+use Rattle.row_versions.specs.History.{version_at, rows_of, visible, newest, begun, ended, given_up, changed, rolled_back}
 use Rattle.row_versions.specs.Order.{AreOrdered, IsLatest}
 
 -- From a commit on a row shows a version, or none; before it, and in other rows, everything shows as it did.
@@ -36,3 +36,18 @@ pub record RollBacksShow : Type 0 where
 -- Law: an emptied version is seen where it was.
 abbrev pub EmptiesShow : Type 0
 EmptiesShow = (place n row : ℕ) (versions : List Version) → visible row n (changed given_up place versions) ≡ visible row n versions
+
+-- Law: where no version begins or ends after a commit, rows show the same from it on, and that is their newest version.
+pub record LatestShow : Type 0 where
+  pub settled : (commit n row : ℕ) (versions : List Version) → IsLatest commit versions → commit ≤ n → visible row n versions ≡ visible row commit versions
+  pub standing : (commit row : ℕ) (versions : List Version) → IsLatest commit versions → newest row versions ≡ visible row commit versions
+  pub unborn : (row : ℕ) (versions : List Version) → rows_of versions ≤ row → newest row versions ≡ None
+
+-- Law: no version begins or ends after a commit, so long as nothing is done at a later one.
+pub record LatestStays : Type 0 where
+  pub new : (n : ℕ) → IsLatest n []
+  pub later : (m n : ℕ) (versions : List Version) → IsLatest m versions → m ≤ n → IsLatest n versions
+  pub appended : (n row commit : ℕ) (versions : List Version) → IsLatest n versions → commit ≤ n → IsLatest n (versions ++ begun row commit ∷ [])
+  pub ended : (n place commit : ℕ) (versions : List Version) → IsLatest n versions → commit ≤ n → IsLatest n (changed (ended commit) place versions)
+  pub emptied : (n place : ℕ) (versions : List Version) → IsLatest n versions → IsLatest n (changed given_up place versions)
+  pub back : (commit : ℕ) (versions : List Version) → 0 < commit → IsLatest (commit - 1) (rolled_back commit versions)

@@ -1,5 +1,5 @@
 // Laws of the definitions, for the crates above.
-ghost use Rattle.row_versions.specs.Shows.{AppendsShow, EndingsShow, RollBacksShow, EmptiesShow};
+ghost use Rattle.row_versions.specs.Shows.{AppendsShow, EndingsShow, RollBacksShow, EmptiesShow, LatestShow, LatestStays};
 
 /// Law: a version that is appended is what its row shows from its commit on.
 pub fn appends_show()
@@ -19,4 +19,14 @@ pub fn roll_backs_show()
 /// Law: an emptied version is seen where it was.
 pub fn empties_show()
     ensures law { EmptiesShow }
+{}
+
+/// Law: where nothing begins or ends after a commit, rows show their newest versions from it on.
+pub fn latest_show()
+    ensures law { LatestShow }
+{}
+
+/// Law: nothing begins or ends after a commit, so long as nothing is done at a later one.
+pub fn latest_stays()
+    ensures law { LatestStays }
 {}

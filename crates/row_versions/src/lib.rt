@@ -22,7 +22,7 @@ mod walking;
 
 pub use append_fault::AppendFault;
 pub use change::Change;
-pub use laws::{appends_show, empties_show, endings_show, roll_backs_show};
+pub use laws::{appends_show, empties_show, endings_show, latest_show, latest_stays, roll_backs_show};
 pub use version::Version;
 pub use version_id::VersionId;
 pub use versions::{MOST_VERSIONS, Versions};
