@@ -1,0 +1,14 @@
+pub mod CutOff
+pub mod EndPlaces
+pub mod Inserted
+pub mod LastPlaces
+pub mod Merged
+pub mod Newest
+pub mod Places
+pub mod Reopened
+pub mod RolledBack
+pub mod Rows
+pub mod Seen
+pub mod Together
+pub mod TouchLists
+pub mod Walk

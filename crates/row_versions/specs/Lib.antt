@@ -1,0 +1,6 @@
+pub mod History
+pub mod Order
+pub mod Shows
+pub mod Changes
+pub mod Inside
+pub mod Touched
