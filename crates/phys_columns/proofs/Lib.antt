@@ -1,0 +1,5 @@
+mod Marked
+mod Mapped
+mod Paged
+mod Searched
+mod Valued

@@ -1,0 +1,46 @@
+ghost use Rattle.std.specs.Prelude.{◌≡◌, ◌<◌, ◌≤◌, ◌≢◌, ℕ, true, false};
+ghost use Rattle.phys_columns.specs.Pages.{is_marked};
+
+/// A bit for each version of a page.
+#[derive(Drop)]
+pub(crate) struct Marks {
+    pub(crate) words: [u64; 16],
+}
+
+impl Marks {
+    pub(crate) fn none() -> Marks
+        ensures exact { (k : ℕ) → is_marked result k ≡ false }
+    {
+        Marks { words: [0; 16] }
+    }
+
+    pub(crate) fn has(&self, place: usize) -> bool
+        requires { place < 1024 }
+        ensures exact { result ≡ is_marked self.now place }
+    {
+        (self.words[place / 64] >> (place % 64)) & 1 == 1
+    }
+
+    pub(crate) fn set(&mut self, place: usize)
+        requires { place < 1024 }
+        ensures here { is_marked self.new place ≡ true }
+        ensures kept { (k : ℕ) → k ≢ place → is_marked self.new k ≡ is_marked self.old k }
+    {
+        self.words[place / 64] |= 1 << (place % 64);
+    }
+
+    pub(crate) fn clear(&mut self, place: usize)
+        requires { place < 1024 }
+        ensures here { is_marked self.new place ≡ false }
+        ensures kept { (k : ℕ) → k ≢ place → is_marked self.new k ≡ is_marked self.old k }
+    {
+        self.words[place / 64] &= !(1 << (place % 64));
+    }
+
+    /// Whether no version is marked.
+    pub(crate) fn is_empty(&self) -> bool
+        ensures exact { result ≡ true → (k : ℕ) → is_marked self.now k ≡ false }
+    {
+        self.words.iter().all(|word| *word == 0)
+    }
+}
