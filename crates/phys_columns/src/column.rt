@@ -71,7 +71,7 @@ impl Column {
         let number = version / 1024;
         match place(&self.pages, number) {
             Ok(place) => {
-                if self.pages[place].slots.kind() != kind {
+                if !self.pages[place].slots.is_of(kind) {
                     self.pages[place] = Page::new(alloc, number, kind)?;
                 }
             }

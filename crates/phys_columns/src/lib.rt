@@ -6,7 +6,7 @@
 #![tactic(auto)]
 
 mod column;
-
+mod columns;
 mod compare_int;
 mod marks;
 mod mask;
@@ -15,6 +15,7 @@ mod slots;
 mod spare;
 mod value_ref;
 
+pub use columns::Columns;
 pub use compare_int::CompareInt;
 pub use mask::Mask;
 pub use spare::Spare;

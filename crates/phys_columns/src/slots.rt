@@ -1,6 +1,7 @@
 ghost use Rattle.std.specs.Prelude.{◌≡◌, ◌<◌, ◌≢◌, ℕ, List, [], IfOk, length, slice_index_or};
 ghost use Rattle.std.specs.List.{All};
 ghost use Rattle.doc_values.specs.Value.{kind_of, IsStorable};
+ghost use Rattle.doc_values.specs.Order.{same_kind};
 ghost use Rattle.phys_columns.specs.Lent.{owned};
 ghost use Rattle.phys_columns.specs.Pages.{AreSlots, kind_in, value_in, text_in, page_len};
 
@@ -34,15 +35,16 @@ impl Slots {
         }
     }
 
-    pub(crate) fn kind(&self) -> Kind
-        ensures exact { result ≡ kind_in self.now }
+    /// Whether the values are of a kind.
+    pub(crate) fn is_of(&self, kind: Kind) -> bool
+        ensures exact { result ≡ same_kind (kind_in self.now) kind }
     {
         match self {
-            Slots::Truths(_) => Kind::Bool,
-            Slots::Numbers(_) => Kind::Int,
-            Slots::Texts(_) => Kind::Text,
-            Slots::Arrays(_) => Kind::Array,
-            Slots::Objects => Kind::Object,
+            Slots::Truths(_) => matches!(kind, Kind::Bool),
+            Slots::Numbers(_) => matches!(kind, Kind::Int),
+            Slots::Texts(_) => matches!(kind, Kind::Text),
+            Slots::Arrays(_) => matches!(kind, Kind::Array),
+            Slots::Objects => matches!(kind, Kind::Object),
         }
     }
 
