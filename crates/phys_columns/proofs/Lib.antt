@@ -3,3 +3,4 @@ mod Mapped
 mod Paged
 mod Searched
 mod Valued
+mod Held
