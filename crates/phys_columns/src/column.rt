@@ -1,11 +1,14 @@
-ghost use Rattle.std.specs.Prelude.{◌≡◌, ◌<◌, ◌≤◌, ◌≢◌, ◌/◌, ℕ, [], Some, None, MatchResult, IfSome, OnOk, is_some, length, option_map, slice_get};
+ghost use Rattle.std.specs.Prelude.{◌≡◌, ◌<◌, ◌≤◌, ◌≢◌, ◌+◌, ◌*◌, ◌/◌, ℕ, [], Some, None, MatchResult, IfSome, OnOk, is_some, length, option_map, slice_get};
 ghost use Rattle.doc_values.specs.declared.kind.Kind.{Kind as KindOf};
 ghost use Rattle.doc_values.specs.declared.value.Value.{Value as ValueOf};
 ghost use Rattle.doc_values.specs.Value.{kind_of, IsStorable};
 ghost use Rattle.phys_columns.specs.Lent.{owned};
+ghost use Rattle.phys_columns.specs.Filtered.{is_bit, is_met};
 ghost use Rattle.phys_columns.specs.Pages.{IsPage};
 ghost use Rattle.phys_columns.specs.Inside.{ArePages, FitsAt, IsOfKind, page_at, column_value};
 
+use crate::compare_int::CompareInt;
+use crate::mask::Mask;
 use crate::page::Page;
 use crate::value_ref::ValueRef;
 use doc_values::{Kind, Value};
@@ -57,6 +60,17 @@ impl Column {
         match self.page(version / 1024) {
             Some(page) => page.lend((version % 1024) as usize),
             None => None,
+        }
+    }
+
+    /// A bit for each version of a page: whether a number stands there and meets the comparison.
+    pub(crate) fn filter(&self, number: u32, test: CompareInt) -> Mask
+        requires { ArePages 0 self.now.pages.items }
+        ensures exact { (w j : ℕ) → w < 16 → j < 64 → is_bit result.words w j ≡ is_met test (column_value self.now.pages.items (1024 * number + (64 * w + j))) }
+    {
+        match self.page(number) {
+            Some(page) => page.filter(test),
+            None => Mask { words: [0; 16] },
         }
     }
 

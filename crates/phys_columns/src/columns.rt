@@ -1,12 +1,15 @@
-ghost use Rattle.std.specs.Prelude.{◌≡◌, ◌≢◌, ◌≤◌, ◌/◌, ℕ, Some, None, IfSome, IfOk, OnOk, OnErr, is_some, length, option_map};
+ghost use Rattle.std.specs.Prelude.{◌≡◌, ◌≢◌, ◌<◌, ◌≤◌, ◌+◌, ◌*◌, ◌/◌, ℕ, Some, None, IfSome, IfOk, OnOk, OnErr, is_some, length, option_map};
 ghost use Rattle.std.specs.FinMap as map;
 ghost use Rattle.doc_values.specs.Value.{kind_of, IsStorable};
 ghost use Rattle.phys_columns.specs.Lent.{owned};
 ghost use Rattle.phys_columns.specs.Inside.{pages_of};
 
 use crate::column::Column;
+use crate::compare_int::CompareInt;
+use crate::mask::Mask;
 use crate::spare::Spare;
 use crate::value_ref::ValueRef;
+use crate::walk::Walk;
 use doc_values::{AttrId, Kind, Value};
 use std::alloc::{AllocError, Global};
 use std::marker::Model;
@@ -35,7 +38,9 @@ impl Model for Columns {
 }
 
 impl Columns {
-    ghost use Rattle.phys_columns.specs.Cells.{cell_at, with_cell, without_cell, AreOfKind};
+    ghost use Rattle.phys_columns.specs.Cells.{cell_at, with_cell, without_cell, values_from, AreOfKind};
+    ghost use Rattle.phys_columns.specs.Filtered.{is_bit, is_met};
+    ghost use Rattle.phys_columns.specs.Walked.{left_of};
 
     /// Columns without a value.
     pub fn new(alloc: Global) -> Columns
@@ -82,6 +87,26 @@ impl Columns {
         match self.cell_ref(id, version) {
             Some(value) => Ok(Some(value.to_value(alloc)?)),
             None => Ok(None),
+        }
+    }
+
+    /// The values of an attribute in a page of 1,024 versions, in the order of their versions, each with its version.
+    pub fn walk(&self, id: AttrId, page: u32) -> Walk<'_>
+        ensures exact { left_of result ≡ values_from id.0 (1024 * page) 1024 self.now.cells }
+    {
+        match self.columns.get(id.0 as usize) {
+            Some(column) => Walk::new(column.page(page)),
+            None => Walk::new(None),
+        }
+    }
+
+    /// A bit for each version of a page of an attribute: whether a number stands in the cell and meets the comparison.
+    pub fn filter_page(&self, id: AttrId, page: u32, test: CompareInt) -> Mask
+        ensures exact { (w j : ℕ) → w < 16 → j < 64 → is_bit result.words w j ≡ is_met test (cell_at id.0 (1024 * page + (64 * w + j)) self.now.cells) }
+    {
+        match self.columns.get(id.0 as usize) {
+            Some(column) => column.filter(page, test),
+            None => Mask { words: [0; 16] },
         }
     }
 

@@ -8,15 +8,18 @@
 mod column;
 mod columns;
 mod compare_int;
+mod comparing;
 mod marks;
 mod mask;
 mod page;
 mod slots;
 mod spare;
 mod value_ref;
+mod walk;
 
 pub use columns::Columns;
 pub use compare_int::CompareInt;
 pub use mask::Mask;
 pub use spare::Spare;
 pub use value_ref::ValueRef;
+pub use walk::Walk;

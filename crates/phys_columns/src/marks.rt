@@ -37,6 +37,24 @@ impl Marks {
         self.words[place / 64] &= !(1 << (place % 64));
     }
 
+    /// The first marked place from a place on, or 1,024.
+    pub(crate) fn next(&self, from: usize) -> usize
+        requires { from ≤ 1024 }
+        ensures between { (from ≤ result) × (result ≤ 1024) }
+        ensures none { (k : ℕ) → from ≤ k → k < result → is_marked self.now k ≡ false }
+        ensures here { result < 1024 → is_marked self.now result ≡ true }
+    {
+        let mut place = from;
+        while place < 1024 {
+            let rest = self.words[place / 64] >> (place % 64);
+            if rest != 0 {
+                return place + rest.trailing_zeros() as usize;
+            }
+            place = (place / 64 + 1) * 64;
+        }
+        place
+    }
+
     /// Whether no version is marked.
     pub(crate) fn is_empty(&self) -> bool
         ensures exact { result ≡ true → (k : ℕ) → is_marked self.now k ≡ false }

@@ -1,9 +1,13 @@
-ghost use Rattle.std.specs.Prelude.{◌≡◌, ◌<◌, ◌≢◌, ℕ, Some, None, true, IfOk, is_some, option_map};
+ghost use Rattle.std.specs.Prelude.{◌≡◌, ◌<◌, ◌≢◌, ◌+◌, ◌*◌, ◌&&◌, ℕ, pos, length, slice_index_or, Some, None, true, IfOk, is_some, option_map};
 ghost use Rattle.doc_values.specs.Value.{kind_of, IsStorable};
 ghost use Rattle.phys_columns.specs.Lent.{owned};
+ghost use Rattle.phys_columns.specs.Filtered.{is_bit, is_met, admits_number};
 ghost use Rattle.phys_columns.specs.Pages.{kind_in, value_at, is_marked, page_len, IsPage};
 
+use crate::compare_int::CompareInt;
+use crate::comparing::met;
 use crate::marks::Marks;
+use crate::mask::Mask;
 use crate::slots::Slots;
 use crate::value_ref::ValueRef;
 use doc_values::{Kind, Value};
@@ -50,6 +54,17 @@ impl Page {
         Some(self.slots.lend(place))
     }
 
+    /// A bit for each version: whether a number stands there and meets the comparison.
+    pub(crate) fn filter(&self, test: CompareInt) -> Mask
+        requires page { IsPage self.now }
+        ensures exact { (w j : ℕ) → w < 16 → j < 64 → is_bit result.words w j ≡ is_met test (value_at self.now (64 * w + j)) }
+    {
+        match &self.slots {
+            Slots::Numbers(numbers) => filter_numbers(&self.marks, numbers, test),
+            _ => Mask { words: [0; 16] },
+        }
+    }
+
     /// Puts a value at a place.
     pub(crate) fn put(&mut self, place: usize, value: Value)
         requires within { place < page_len }
@@ -89,4 +104,16 @@ impl Page {
     {
         self.marks.is_empty()
     }
+}
+
+// A bit for each marked number that meets the comparison.
+fn filter_numbers(marks: &Marks, numbers: &[i64], test: CompareInt) -> Mask
+    requires whole { length numbers.now ≡ page_len }
+    ensures exact { (w j : ℕ) → w < 16 → j < 64 → is_bit result.words w j ≡ (is_marked marks.now (64 * w + j) && admits_number test (slice_index_or numbers.now (64 * w + j) (pos 0))) }
+{
+    let mut words = marks.words;
+    for place in 0..16_usize {
+        words[place] &= met(numbers, 64 * place, test);
+    }
+    Mask { words }
 }
