@@ -4,3 +4,5 @@ mod Paged
 mod Searched
 mod Valued
 mod Held
+mod Lanes
+mod Walks

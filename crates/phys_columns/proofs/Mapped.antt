@@ -10,6 +10,7 @@ use Rattle.std.specs.FinMap.{IsAntisymmetric, find, same_map, get-from_entries, 
 use Rattle.std.proofs.lemmas.Bool.Decides.{eqb_tells, leb_tells}
 use Rattle.doc_values.specs.declared.value.Value.{Value}
 use Rattle.phys_columns.specs.Cells.{Cells, key_of, with_cell, without_cell}
+use Rattle.phys_columns.specs.Laws.{PutsAlone, TakesAlone}
 use Rattle.phys_columns.specs.Seen.{entries_of, entries_below, cells_of, IsWithin}
 
 abbrev R : List ℕ → List ℕ → Rattle.std.specs.declared.cmp.Ordering.Ordering
@@ -167,3 +168,22 @@ take_cells f g a b n id version within inside here kept = same_map nat_list_cmp_
       | inl same ↦ ap (read g) same.1 ∙ here ∙ sym (ap (λ b. cond b None (read f q)) same.0)
       | inr differs ↦ read_same f g q (λ i w is. kept i w (λ e h. differs.1 (cc))) ∙ sym (ap (λ b. cond b None (read f q)) differs.0)
     ]
+
+-- Cells are a map.
+pub puts_alone : PutsAlone
+puts_alone cells id version value = (get-insert nat_list_cmp_total cells (key_of id version) value (key_of id version) ∙ (elim (tells (key_of id version) (key_of id version)) [
+  | inl same ↦ ap (λ b. cond b (Some value) (map.get cells (key_of id version))) same.0
+  | inr differs ↦ absurd (differs.1 refl)
+]), λ i w apart. get-insert nat_list_cmp_total cells (key_of id version) value (key_of i w) ∙ (elim (tells (key_of i w) (key_of id version)) [
+  | inl same ↦ absurd (let k = same.1 in apart (cc) (cc))
+  | inr differs ↦ ap (λ b. cond b (Some value) (map.get cells (key_of i w))) differs.0
+]))
+
+pub takes_alone : TakesAlone
+takes_alone cells id version = (get-remove nat_list_cmp_total cells (key_of id version) (key_of id version) ∙ (elim (tells (key_of id version) (key_of id version)) [
+  | inl same ↦ ap (λ b. cond b None (map.get cells (key_of id version))) same.0
+  | inr differs ↦ absurd (differs.1 refl)
+]), λ i w apart. get-remove nat_list_cmp_total cells (key_of id version) (key_of i w) ∙ (elim (tells (key_of i w) (key_of id version)) [
+  | inl same ↦ absurd (let k = same.1 in apart (cc) (cc))
+  | inr differs ↦ ap (λ b. cond b None (map.get cells (key_of i w))) differs.0
+]))

@@ -22,6 +22,7 @@ pub record StandsAt (pages : List Page) (n i : ℕ) (p : Page) : Type 0 where
   pub are : ArePages 0 pages
   pub there : slice_get pages i ≡ Some p
   pub number : p.number ≡ n
+  pub low : p.number < most_pages
   pub page : IsPage p
   pub at : page_at n pages ≡ Some p
 
@@ -32,7 +33,7 @@ stands pages seen n i p same are place is =
     let found_at : slice_get pages i ≡ page_at n pages = subst (λ xs. slice_get xs i ≡ page_at n xs) same place.1 in
     let there = slice_get_read pages (length pages) i p refl within is in
     let facts = page_is n 0 pages are p (sym found_at ∙ there) in
-    record { are = are; there = there; number = facts.0; page = facts.2; at = sym found_at ∙ there }
+    record { are = are; there = there; number = facts.0; low = subst (λ m. m < most_pages) (sym facts.0) facts.1; page = facts.2; at = sym found_at ∙ there }
 
 -- What the search for a number has not found.
 pub fits_there : (pages seen : List Page) (n i : ℕ) → seen ≡ pages → (i ≤ length seen) × (page_at n seen ≡ None) × FitsAt n i seen → (i ≤ length pages) × (page_at n pages ≡ None) × FitsAt n i pages

@@ -5,3 +5,4 @@ pub mod Pages
 pub mod Seen
 pub mod Inside
 pub mod Walked
+pub mod Laws

@@ -1,5 +1,5 @@
 -- What a page holds: marks, a bit a version, and slots, in which the values of one kind stand.
-use Rattle.std.specs.Prelude.{◌≡◌, ℕ, ℤ, pos, ◌<◌, ◌≤◌, ◌/◌, ◌%◌, ◌==◌, List, [], length, Bool, true, false, Option, Some, None, if◌then◌else◌, slice_index, slice_index_or, ⊤}
+use Rattle.std.specs.Prelude.{◌≡◌, ℕ, ℤ, pos, ◌<◌, ◌≤◌, ◌/◌, ◌%◌, ◌==◌, List, [], length, Bool, true, false, Option, Some, None, if◌then◌else◌, slice_index, slice_index_or}
 use Rattle.doc_values.specs.declared.kind.Kind as kind
 use Rattle.doc_values.specs.declared.value.Value as value
 use Rattle.phys_columns.specs.declared.marks.Marks.{Marks}
@@ -39,13 +39,17 @@ text_in (slots.TheVariants.Texts texts) place = slice_index_or texts.items place
 text_in (slots.TheVariants.Arrays texts) place = slice_index_or texts.items place []
 text_in slots.TheVariants.Objects place = []
 
+-- How many slots there are; truths and objects have one for every version of a page.
+abbrev pub slots_len : slots.Slots → ℕ
+slots_len (slots.TheVariants.Truths truths) = page_len
+slots_len (slots.TheVariants.Numbers numbers) = length numbers.items
+slots_len (slots.TheVariants.Texts texts) = length texts.items
+slots_len (slots.TheVariants.Arrays texts) = length texts.items
+slots_len slots.TheVariants.Objects = page_len
+
 -- There is a slot for each version of the page.
 abbrev pub AreSlots : slots.Slots → Type 0
-AreSlots (slots.TheVariants.Truths truths) = ⊤
-AreSlots (slots.TheVariants.Numbers numbers) = length numbers.items ≡ page_len
-AreSlots (slots.TheVariants.Texts texts) = length texts.items ≡ page_len
-AreSlots (slots.TheVariants.Arrays texts) = length texts.items ≡ page_len
-AreSlots slots.TheVariants.Objects = ⊤
+AreSlots slots = slots_len slots ≡ page_len
 
 -- The value that stands at a place of a page, if it is marked.
 abbrev pub value_at : Page → ℕ → Option value.Value

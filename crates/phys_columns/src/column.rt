@@ -1,11 +1,12 @@
 ghost use Rattle.std.specs.Prelude.{◌≡◌, ◌<◌, ◌≤◌, ◌≢◌, ◌+◌, ◌*◌, ◌/◌, ℕ, [], Some, None, MatchResult, IfSome, OnOk, is_some, length, option_map, slice_get};
+ghost use Rattle.std.specs.Option.{ForSome};
 ghost use Rattle.doc_values.specs.declared.kind.Kind.{Kind as KindOf};
 ghost use Rattle.doc_values.specs.declared.value.Value.{Value as ValueOf};
 ghost use Rattle.doc_values.specs.Value.{kind_of, IsStorable};
 ghost use Rattle.phys_columns.specs.Lent.{owned};
 ghost use Rattle.phys_columns.specs.Filtered.{is_bit, is_met};
-ghost use Rattle.phys_columns.specs.Pages.{IsPage};
-ghost use Rattle.phys_columns.specs.Inside.{ArePages, FitsAt, IsOfKind, page_at, column_value};
+ghost use Rattle.phys_columns.specs.Pages.{IsPage, AreSlots};
+ghost use Rattle.phys_columns.specs.Inside.{ArePages, FitsAt, IsOfKind, page_at, column_value, most_pages};
 
 use crate::compare_int::CompareInt;
 use crate::mask::Mask;
@@ -34,6 +35,8 @@ impl Column {
         requires { ArePages 0 self.now.pages.items }
         ensures exact { option_map (λ page. page.now) result ≡ page_at number self.now.pages.items }
         ensures page { IfSome result (λ page. IsPage page.now) }
+        ensures low { ForSome result (λ page. page.now.number < most_pages) }
+        ensures whole { ForSome result (λ page. AreSlots page.now.slots) }
     {
         match place(&self.pages, number) {
             Ok(place) => Some(&self.pages[place]),

@@ -9,6 +9,7 @@ mod column;
 mod columns;
 mod compare_int;
 mod comparing;
+mod laws;
 mod marks;
 mod mask;
 mod page;
@@ -19,6 +20,7 @@ mod walk;
 
 pub use columns::Columns;
 pub use compare_int::CompareInt;
+pub use laws::cells_are_a_map;
 pub use mask::Mask;
 pub use spare::Spare;
 pub use value_ref::ValueRef;

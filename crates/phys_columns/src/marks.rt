@@ -1,4 +1,5 @@
-ghost use Rattle.std.specs.Prelude.{◌≡◌, ◌<◌, ◌≤◌, ◌≢◌, ℕ, true, false};
+ghost use Rattle.std.specs.Prelude.{◌≡◌, ◌<◌, ◌≤◌, ◌≢◌, ℕ, true, false, IfSome, IfNone};
+ghost use Rattle.std.specs.Int.{bit_at};
 ghost use Rattle.phys_columns.specs.Pages.{is_marked};
 
 /// A bit for each version of a page.
@@ -46,9 +47,8 @@ impl Marks {
     {
         let mut place = from;
         while place < 1024 {
-            let rest = self.words[place / 64] >> (place % 64);
-            if rest != 0 {
-                return place + rest.trailing_zeros() as usize;
+            if let Some(bit) = first_set(self.words[place / 64], place % 64) {
+                return place / 64 * 64 + bit;
             }
             place = (place / 64 + 1) * 64;
         }
@@ -61,4 +61,17 @@ impl Marks {
     {
         self.words.iter().all(|word| *word == 0)
     }
+}
+
+// The first bit of a word that is set, from a place on.
+fn first_set(word: u64, from: usize) -> Option<usize>
+    requires { from < 64 }
+    ensures none { IfNone result ((k : ℕ) → from ≤ k → k < 64 → bit_at word k ≡ 0) }
+    ensures some { IfSome result (λ bit. (from ≤ bit) × (bit < 64) × (bit_at word bit ≡ 1) × ((k : ℕ) → from ≤ k → k < bit → bit_at word k ≡ 0)) }
+{
+    let rest = word >> from;
+    if rest == 0 {
+        return None;
+    }
+    Some(from + rest.trailing_zeros() as usize)
 }

@@ -16,6 +16,19 @@ pub enum ValueRef<'a> {
 impl<'a> ValueRef<'a> {
     ghost use Rattle.phys_columns.specs.Lent.{owned};
 
+    /// The value, lent.
+    pub fn of(value: &'a Value) -> ValueRef<'a>
+        ensures exact { owned result ≡ value.now }
+    {
+        match value {
+            Value::Bool(b) => ValueRef::Bool(*b),
+            Value::Int(n) => ValueRef::Int(*n),
+            Value::Text(text) => ValueRef::Text(text.text()),
+            Value::Array(text) => ValueRef::Array(text.text()),
+            Value::Object => ValueRef::Object,
+        }
+    }
+
     /// A value of its own, with a copy of the text.
     pub fn to_value(self, alloc: Global) -> Result<Value, AllocError>
         ensures ok { IfOk result (λ value. value ≡ owned self.entry) }

@@ -1,5 +1,6 @@
-ghost use Rattle.std.specs.Prelude.{◌≡◌, ◌<◌, ◌≤◌, IfSome, []};
-ghost use Rattle.phys_columns.specs.Pages.{IsPage};
+ghost use Rattle.std.specs.Prelude.{◌≡◌, ◌<◌, ◌≤◌};
+ghost use Rattle.std.specs.Option.{ForSome};
+ghost use Rattle.phys_columns.specs.Pages.{AreSlots};
 ghost use Rattle.phys_columns.specs.Inside.{most_pages};
 
 use crate::page::Page;
@@ -10,7 +11,8 @@ use crate::value_ref::ValueRef;
 pub struct Walk<'a> {
     page: Option<&'a Page>,
     place: usize,
-    ghost paged: { IfSome page (λ p. IsPage p.now × (p.now.number < most_pages)) },
+    ghost whole: { ForSome page (λ p. AreSlots p.now.slots) },
+    ghost low: { ForSome page (λ p. p.now.number < most_pages) },
     ghost within: { place ≤ 1024 },
 }
 
@@ -18,8 +20,9 @@ impl<'a> Walk<'a> {
     ghost use Rattle.phys_columns.specs.Walked.{left_of, all_of};
 
     pub(crate) fn new(page: Option<&'a Page>) -> Self
-        requires { IfSome page (λ p. IsPage p.now × (p.now.number < most_pages)) }
-        ensures exact { left_of result ≡ all_of page }
+        requires whole { ForSome page (λ p. AreSlots p.now.slots) }
+        requires low { ForSome page (λ p. p.now.number < most_pages) }
+        ensures exact { left_of result ≡ all_of page.entry }
     {
         Walk { page, place: 0 }
     }
