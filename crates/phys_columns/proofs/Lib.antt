@@ -6,3 +6,4 @@ mod Valued
 mod Held
 mod Lanes
 mod Walks
+mod Bits

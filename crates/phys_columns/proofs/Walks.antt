@@ -1,11 +1,14 @@
 -- What a walk has left, as it goes on from place to place.
-use Rattle.std.proofs.Common.{◌≡◌, ◌≢◌, ◌<◌, ◌≤◌, ◌∙◌, ap, sym, refl, subst, arith, ℕ, zero, suc, ◌+◌, ◌-◌, ◌*◌, List, [], ◌∷◌, Bool, true, false, Option, Some, None, Bor, if◌then◌else◌, ◌⊎◌, inl, inr}
-use Rattle.std.specs.Option.{option_map_or}
+use Rattle.std.proofs.Common.{◌≡◌, ◌≢◌, ◌<◌, ◌≤◌, ◌∙◌, ap, sym, refl, subst, arith, ℕ, zero, suc, ◌+◌, ◌-◌, ◌*◌, ◌/◌, ◌%◌, List, [], ◌∷◌, Bool, true, false, Option, Some, None, Bor, if◌then◌else◌, ◌⊎◌, inl, inr}
+use Rattle.std.specs.Option.{option_map_or, option_map}
 use Rattle.std.proofs.lemmas.Bool.Decides.{eqb_tells}
 use Rattle.doc_values.specs.declared.value.Value.{Value}
 use Rattle.phys_columns.specs.declared.page.Page.{Page}
 use Rattle.phys_columns.specs.Pages.{is_marked, value_in, value_at}
-use Rattle.phys_columns.specs.Walked.{values_in}
+use Rattle.phys_columns.specs.Walked.{values_in, all_of}
+use Rattle.phys_columns.specs.Cells.{Cells, cell_at, values_from}
+use Rattle.phys_columns.specs.Inside.{ArePages, page_at, column_value}
+use Rattle.phys_columns.proofs.Paged.{page_is}
 
 abbrev left : Option (Bor Page) → ℕ → List (ℕ × Value)
 left page place = option_map_or (λ p. values_in p.now place (1024 - place)) page []
@@ -51,3 +54,39 @@ left_next page p place r value is from low none here same =
     ∙ ap (λ v. (1024 * p.now.number + r, v) ∷ values_in p.now (r + 1) (1023 - r)) (sym same)
     ∙ ap (λ m. (1024 * p.now.number + r, value) ∷ values_in p.now (r + 1) m) (omega arith)
     ∙ ap (λ o. (1024 * p.now.number + r, value) ∷ left o (r + 1)) (sym is)
+
+-- The values of a page are those of its cells.
+walk_page : (p : Page) (id : ℕ) (cells : Cells) → ((k : ℕ) → k < 1024 → cell_at id (1024 * p.number + k) cells ≡ value_at p k) → (place n : ℕ) → place + n ≤ 1024 → values_in p place n ≡ values_from id (1024 * p.number + place) n cells
+unfolding values_in values_from
+walk_page p id cells same place zero within = refl
+walk_page p id cells same place (suc n) within =
+    let rest : values_in p (place + 1) n ≡ values_from id ((1024 * p.number + place) + 1) n cells = walk_page p id cells same (place + 1) n (omega arith) ∙ ap (λ v. values_from id v n cells) (omega arith) in
+    ap (λ vs. option_map_or (λ value. (1024 * p.number + place, value) ∷ vs) (value_at p place) vs) rest
+    ∙ ap (λ o. option_map_or (λ value. (1024 * p.number + place, value) ∷ values_from id ((1024 * p.number + place) + 1) n cells) o (values_from id ((1024 * p.number + place) + 1) n cells)) (sym (same place (omega arith)))
+
+walk_none : (id : ℕ) (cells : Cells) (from n : ℕ) → ((k : ℕ) → k < n → cell_at id (from + k) cells ≡ None) → values_from id from n cells ≡ []
+unfolding values_from
+walk_none id cells from zero none = refl
+walk_none id cells from (suc n) none =
+    let here : cell_at id from cells ≡ None = ap (λ v. cell_at id v cells) (omega arith) ∙ none 0 (omega arith) in
+    ap (λ o. option_map_or (λ value. (from, value) ∷ values_from id (from + 1) n cells) o (values_from id (from + 1) n cells)) here
+    ∙ walk_none id cells (from + 1) n (λ k below. ap (λ v. cell_at id v cells) (omega arith) ∙ none (k + 1) (omega arith))
+
+-- A version by its page and its place there.
+pub at_place : (pages : List Page) (number k : ℕ) → k < 1024 → column_value pages (1024 * number + k) ≡ option_map_or (λ p. value_at p k) (page_at number pages) None
+at_place pages number k below =
+    let page : (1024 * number + k) / 1024 ≡ number = omega arith in
+    let place : (1024 * number + k) % 1024 ≡ k = omega arith in
+    ap (λ (n : ℕ). option_map_or (λ p. value_at p ((1024 * number + k) % 1024)) (page_at n pages) None) page ∙ ap (λ (m : ℕ). option_map_or (λ p. value_at p m) (page_at number pages) None) place
+
+-- What a walk gives of a column.
+pub walked : (pages : List Page) (id number : ℕ) (cells : Cells) (page : Option (Bor Page)) → ArePages 0 pages → option_map (λ p. p.now) page ≡ page_at number pages → ((v : ℕ) → cell_at id v cells ≡ column_value pages v) → all_of page ≡ values_from id (1024 * number) 1024 cells
+walked pages id number cells None are at same = sym (walk_none id cells (1024 * number) 1024 (λ k below. same (1024 * number + k) ∙ at_place pages number k below ∙ ap (λ o. option_map_or (λ p. value_at p k) o None) (sym at)))
+walked pages id number cells (Some p) are at same =
+    let is : p.now.number ≡ number = (page_is number 0 pages are p.now (sym at)).0 in
+    walk_page p.now id cells (λ k below. ap (λ (m : ℕ). cell_at id (1024 * m + k) cells) is ∙ same (1024 * number + k) ∙ at_place pages number k below ∙ ap (λ o. option_map_or (λ q. value_at q k) o None) (sym at)) 0 1024 (omega arith)
+    ∙ ap (λ (v : ℕ). values_from id v 1024 cells) (let e : 1024 * p.now.number + 0 ≡ 1024 * number = omega (arith, is) in e)
+
+-- A column that is not there gives nothing.
+pub walked_none : (id number : ℕ) (cells : Cells) → ((v : ℕ) → cell_at id v cells ≡ None) → [] ≡ values_from id (1024 * number) 1024 cells
+walked_none id number cells none = sym (walk_none id cells (1024 * number) 1024 (λ k below. none (1024 * number + k)))

@@ -47,10 +47,10 @@ impl Marks {
     {
         let mut place = from;
         while place < 1024 {
-            if let Some(bit) = first_set(self.words[place / 64], place % 64) {
-                return place / 64 * 64 + bit;
+            match first_set(self.words[place / 64], place % 64) {
+                Some(bit) => return place / 64 * 64 + bit,
+                None => place = (place / 64 + 1) * 64,
             }
-            place = (place / 64 + 1) * 64;
         }
         place
     }
