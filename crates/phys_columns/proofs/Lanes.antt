@@ -1,5 +1,5 @@
 -- What the bits say of a comparison of 64 numbers in lanes.
-use Rattle.std.proofs.Common.{◌≡◌, ◌≢◌, ◌<◌, ◌≤◌, ◌∙◌, ap, sym, refl, arith, ℕ, zero, suc, ◌+◌, ◌^◌, ◌-◌, ◌%◌, ◌/◌, ◌==◌, ℤ, pos, List, length, map, Bool, true, false, cond, not, slice_index_or, ◌⊎◌, inl, inr, eqb, int_lt, replicate}
+use Rattle.std.proofs.Common.{◌≡◌, ◌≢◌, ◌<◌, ◌≤◌, ◌∙◌, ap, sym, refl, arith, ℕ, zero, suc, ◌+◌, ◌^◌, ◌-◌, ◌%◌, ◌/◌, ◌==◌, ℤ, pos, negsuc, ◌≤ℤ◌, List, length, map, Bool, true, false, cond, not, slice_index_or, ◌⊎◌, inl, inr, eqb, int_lt, replicate}
 use Rattle.std.specs.Int.{bit_at, bit_not}
 use Rattle.std.proofs.lemmas.Nat.Bits.{bit_at_not, bit_at-lt}
 use mir.Syntax.{w64}
@@ -82,3 +82,13 @@ lt_is a b = elim (int_lt a b) as (λ t. t ≡ is_lt (cond t Less (cond (int_lt b
 
 pub gt_is : (a b : ℤ) → int_lt b a ≡ is_gt (int_cmp a b)
 gt_is a b = by_lt_z {P = int_lt b a ≡ is_gt (int_cmp a b)} a b (λ less. grind (arith, ints)) (λ more. grind (arith, ints))
+
+-- A number that may be stored is one of 64 bits, signed.
+pub storable_fits : (z : ℤ) → (negsuc 9223372036854775807 ≤ℤ z) × (z ≤ℤ pos 9223372036854775807) → SFits w64 z
+storable_fits (pos n) h = record { sfits = omega (arith, ints, h.1) }
+storable_fits (negsuc n) h = record { sfits = omega (arith, ints, h.0) }
+
+pub only_zeros : (n k : ℕ) → slice_index_or (replicate n (pos 0)) k (pos 0) ≡ pos 0
+only_zeros zero k = refl
+only_zeros (suc n) zero = refl
+only_zeros (suc n) (suc k) = only_zeros n k

@@ -2,6 +2,7 @@
 use Rattle.std.specs.Prelude.{◌≡◌, ℕ, ℤ, pos, ◌<◌, ◌≤◌, ◌/◌, ◌%◌, ◌==◌, List, [], length, Bool, true, false, Option, Some, None, if◌then◌else◌, slice_index, slice_index_or}
 use Rattle.doc_values.specs.declared.kind.Kind as kind
 use Rattle.doc_values.specs.declared.value.Value as value
+use Rattle.doc_values.specs.Value.{IsStorable}
 use Rattle.phys_columns.specs.declared.marks.Marks.{Marks}
 use Rattle.phys_columns.specs.declared.slots.Slots as slots
 use Rattle.phys_columns.specs.declared.page.Page.{Page}
@@ -55,7 +56,8 @@ AreSlots slots = slots_len slots ≡ page_len
 abbrev pub value_at : Page → ℕ → Option value.Value
 value_at page place = if is_marked page.marks place then Some (value_in page.slots place) else None
 
--- A page is as long as pages are, and where no value stands it keeps no text.
+-- A page is as long as pages are, its slots hold what may be stored, and where no value stands it keeps no text.
 pub record IsPage (page : Page) : Type 0 where
   pub whole : AreSlots page.slots
+  pub storable : (place : ℕ) → IsStorable (value_in page.slots place)
   pub bare : (place : ℕ) → place < page_len → is_marked page.marks place ≡ false → text_in page.slots place ≡ []

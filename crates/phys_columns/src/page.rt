@@ -1,4 +1,5 @@
 ghost use Rattle.std.specs.Prelude.{◌≡◌, ◌<◌, ◌≢◌, ◌+◌, ◌*◌, ◌&&◌, ℕ, pos, length, slice_index_or, Some, None, true, IfOk, is_some, option_map};
+ghost use Rattle.doc_values.specs.declared.value.Value.TheVariants.{Int as IntOf};
 ghost use Rattle.doc_values.specs.Value.{kind_of, IsStorable};
 ghost use Rattle.phys_columns.specs.Lent.{owned};
 ghost use Rattle.phys_columns.specs.Filtered.{is_bit, is_met, admits_number};
@@ -109,6 +110,7 @@ impl Page {
 // A bit for each marked number that meets the comparison.
 fn filter_numbers(marks: &Marks, numbers: &[i64], test: CompareInt) -> Mask
     requires whole { length numbers.now ≡ page_len }
+    requires storable { (k : ℕ) → IsStorable (IntOf (slice_index_or numbers.now k (pos 0))) }
     ensures exact { (w j : ℕ) → w < 16 → j < 64 → is_bit result.words w j ≡ (is_marked marks.now (64 * w + j) && admits_number test (slice_index_or numbers.now (64 * w + j) (pos 0))) }
 {
     let mut words = marks.words;

@@ -1,4 +1,4 @@
-ghost use Rattle.std.specs.Prelude.{◌≡◌, ◌<◌, ◌≢◌, ℕ, List, [], IfOk, length, slice_index_or};
+ghost use Rattle.std.specs.Prelude.{◌≡◌, ◌<◌, ◌≢◌, ℕ, List, [], pos, IfOk, length, slice_index_or};
 ghost use Rattle.std.specs.List.{All};
 ghost use Rattle.doc_values.specs.Value.{kind_of, IsStorable};
 ghost use Rattle.doc_values.specs.Order.{same_kind};
@@ -25,6 +25,7 @@ impl Slots {
     /// Slots for the values of a kind.
     pub(crate) fn new(alloc: Global, kind: Kind) -> Result<Slots, AllocError>
         ensures ok { IfOk result (λ slots. (kind_in slots ≡ kind) × AreSlots slots × ((k : ℕ) → text_in slots k ≡ [])) }
+        ensures storable { IfOk result (λ slots. (k : ℕ) → IsStorable (value_in slots k)) }
     {
         match kind {
             Kind::Bool => Ok(Slots::Truths(Box::new(alloc, Marks::none())?)),
@@ -107,6 +108,7 @@ impl Slots {
         requires whole { AreSlots self.old }
         ensures exact { result ≡ value_in self.old place }
         ensures bare { text_in self.new place ≡ [] }
+        ensures storable { ((k : ℕ) → IsStorable (value_in self.old k)) → (k : ℕ) → IsStorable (value_in self.new k) }
         ensures kept { (k : ℕ) → k ≢ place → (value_in self.new k ≡ value_in self.old k) × (text_in self.new k ≡ text_in self.old k) }
         ensures kind { kind_in self.new ≡ kind_in self.old }
         ensures whole { AreSlots self.new }
@@ -124,8 +126,11 @@ impl Slots {
 // A page of zeros.
 fn zeros(alloc: Global) -> Result<Vec<i64>, AllocError>
     ensures len { IfOk result (λ numbers. length numbers.items ≡ page_len) }
+    ensures zero { IfOk result (λ numbers. (k : ℕ) → slice_index_or numbers.items k (pos 0) ≡ pos 0) }
 {
-    Vec::from_elem(alloc, 0, 1024)
+    let mut numbers = Vec::with_capacity(alloc, 1024)?;
+    numbers.resize(1024, 0)?;
+    Ok(numbers)
 }
 
 // A page of empty texts, which have no memory of their own.

@@ -2,6 +2,7 @@ use Rattle.std.proofs.Common.{◌≡◌, ◌∙◌, ◌+◌, ◌*◌, ◌&&◌, 
 use Rattle.std.proofs.lemmas.List.{length-set}
 use Rattle.std.proofs.lemmas.Bool.Decides.{eqb_tells}
 use Rattle.phys_columns.specs.Filtered.{is_bit, admits_number}
+use Rattle.phys_columns.proofs.Lanes.{storable_fits}
 use Rattle.phys_columns.proofs.Bits.{step_word, other_word, other_bit, mark_is}
 use Rattle.phys_columns.proofs.page.filter_numbers.Goals as goal
 
@@ -20,3 +21,6 @@ loop-place-preserved c =
       ];
       rest = λ w from. other_word c.loop-place.words at _ w (λ e. absurd (omega (arith, e))) ∙ before.rest w (omega arith);
     }
+
+pub met-requires-clause-fit : goal.met-requires-clause-fit
+met-requires-clause-fit c k = storable_fits _ (c.requires.storable k)
