@@ -1,0 +1,60 @@
+use Rattle.std.proofs.Common.{◌≡◌, ◌∙◌, ap, refl, sym, subst, arith, length, ◌<◌, None, Some, OnErr, OnOk}
+use Rattle.phys_columns.specs.Cells.{cell_at}
+use Rattle.phys_columns.specs.Inside.{cells_in, HasRoom}
+use Rattle.phys_columns.proofs.Held.{on_err, paged_there, read_some, pages_same, set_paged, set_same, new_room, same_pages}
+use Rattle.phys_columns.proofs.columns.Columns.reserve_cell.Goals as goal
+
+pub returns-in_err-grow-clause-memory : goal.returns-in_err-grow-clause-memory
+returns-in_err-grow-clause-memory c =
+    let now = c.self.view_is ∙ c.release.ensures.exact in
+    let cells : cells_in c.grow.new.columns.items ≡ c.args.self.now.cells = same_pages c.self.inside.columns.items c.grow.new.columns.items c.self.invariant.paged c.grow.ensures.kept ∙ ap (λ s. s.cells) now in
+    on_err _ cells
+
+pub make_room-requires-clause-pages : goal.make_room-requires-clause-pages
+make_room-requires-clause-pages c =
+    let paged = pages_same c.self.inside.columns.items c.grow.new.columns.items c.grow.ensures.kept c.self.invariant.paged in
+    let inside : c.args.id.0 < length c.grow.new.columns.items = omega (arith, c.in_ok-grow.ensures.ok) in
+    paged_there _ _ c.args.id.0 _ refl paged inside c.index_mut.ensures.value
+
+pub make_room-requires-clause-alike : goal.make_room-requires-clause-alike
+make_room-requires-clause-alike c w v is =
+    let now = c.self.view_is ∙ c.release.ensures.exact in
+    let cells : cells_in c.grow.new.columns.items ≡ c.args.self.now.cells = same_pages c.self.inside.columns.items c.grow.new.columns.items c.self.invariant.paged c.grow.ensures.kept ∙ ap (λ s. s.cells) now in
+    let paged = pages_same c.self.inside.columns.items c.grow.new.columns.items c.grow.ensures.kept c.self.invariant.paged in
+    let inside : c.args.id.0 < length c.grow.new.columns.items = omega (arith, c.in_ok-grow.ensures.ok) in
+    c.requires.alike w v (ap (cell_at c.args.id.0 w) (sym cells) ∙ read_some _ _ c.args.id.0 w _ refl paged inside c.index_mut.ensures.value ∙ is)
+
+pub invariant_of-self-in_err-make_room : goal.invariant_of-self-in_err-make_room
+invariant_of-self-in_err-make_room c =
+    let now = c.self.view_is ∙ c.release.ensures.exact in
+    let paged = pages_same c.self.inside.columns.items c.grow.new.columns.items c.grow.ensures.kept c.self.invariant.paged in
+    let inside : c.args.id.0 < length c.grow.new.columns.items = omega (arith, c.in_ok-grow.ensures.ok) in
+    record {
+      paged = set_paged _ _ _ _ inside c.index_mut.ensures.value paged c.make_room.ensures.pages;
+      room = subst (HasRoom _) (sym (ap (λ s. s.spare) now)) tt;
+    }
+
+pub returns-in_err-make_room-clause-memory : goal.returns-in_err-make_room-clause-memory
+returns-in_err-make_room-clause-memory c =
+    let now = c.self.view_is ∙ c.release.ensures.exact in
+    let cells : cells_in c.grow.new.columns.items ≡ c.args.self.now.cells = same_pages c.self.inside.columns.items c.grow.new.columns.items c.self.invariant.paged c.grow.ensures.kept ∙ ap (λ s. s.cells) now in
+    let paged = pages_same c.self.inside.columns.items c.grow.new.columns.items c.grow.ensures.kept c.self.invariant.paged in
+    let inside : c.args.id.0 < length c.grow.new.columns.items = omega (arith, c.in_ok-grow.ensures.ok) in
+    on_err _ (set_same _ _ _ _ inside c.index_mut.ensures.value paged c.make_room.ensures.pages c.make_room.ensures.kept ∙ cells)
+
+pub invariant_of-self-2 : goal.invariant_of-self-2
+invariant_of-self-2 c =
+    let paged = pages_same c.self.inside.columns.items c.grow.new.columns.items c.grow.ensures.kept c.self.invariant.paged in
+    let inside : c.args.id.0 < length c.grow.new.columns.items = omega (arith, c.in_ok-grow.ensures.ok) in
+    record {
+      paged = set_paged _ _ _ _ inside c.index_mut.ensures.value paged c.make_room.ensures.pages;
+      room = new_room _ _ _ _ inside c.index_mut.ensures.value paged c.make_room.ensures.pages (record { id = c.args.id; version = c.args.version; kind = c.args.kind }) refl c.in_ok-make_room.ensures.room;
+    }
+
+pub returns-clause-ok : goal.returns-clause-ok
+returns-clause-ok c =
+    let now = c.self.view_is ∙ c.release.ensures.exact in
+    let cells : cells_in c.grow.new.columns.items ≡ c.args.self.now.cells = same_pages c.self.inside.columns.items c.grow.new.columns.items c.self.invariant.paged c.grow.ensures.kept ∙ ap (λ s. s.cells) now in
+    let paged = pages_same c.self.inside.columns.items c.grow.new.columns.items c.grow.ensures.kept c.self.invariant.paged in
+    let inside : c.args.id.0 < length c.grow.new.columns.items = omega (arith, c.in_ok-grow.ensures.ok) in
+    ap (λ held. record { cells = held; spare = Some (record { id = c.args.id; version = c.args.version; kind = c.args.kind }) }) (set_same _ _ _ _ inside c.index_mut.ensures.value paged c.make_room.ensures.pages c.make_room.ensures.kept ∙ cells)

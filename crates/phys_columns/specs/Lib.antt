@@ -1,0 +1,8 @@
+pub mod Cells
+pub mod Lent
+pub mod Filtered
+pub mod Pages
+pub mod Seen
+pub mod Inside
+pub mod Walked
+pub mod Laws
