@@ -1,13 +1,13 @@
 -- The rule holds when a lock is made, and tells of the value when it is closed.
-use Rattle.std.proofs.Common.{◌≡◌, ℕ, zero, suc, ◌+◌, ◌^◌, ◌<◌, ◌≤◌, ◌≢◌, Bool, true, false, List, [], ◌∷◌, length, All, Option, Some, None, refl, sym, ap, ◌∙◌, subst, arith}
+use Rattle.std.proofs.Common.{◌≡◌, ℕ, zero, suc, ◌^◌, ◌<◌, true, false, List, [], ◌∷◌, length, All, Option, Some, None, refl, sym, ap, ◌∙◌, subst, arith}
 use Rattle.std.proofs.lemmas.List.Elements.{All-weaker, All-nil}
 use mathlib.Core.Option.{Option as Home, some, some-injective, some-ne-none}
 use lib.ListN.{get_elem?}
 use Rattle.atomic_table.specs.Table.{State, opening, Final, Seen}
 use Rattle.turn_lock.specs.declared.stage.Stage.TheVariants.{Called}
 use Rattle.turn_lock.specs.declared.view.View.{View}
-use Rattle.turn_lock.specs.Pass.{Extends, entries_of, Fits}
-use Rattle.turn_lock.specs.Rule.{Role, own, returned, Course, IsHeld, Knows, Kept}
+use Rattle.turn_lock.specs.Pass.{Extends, entries_of}
+use Rattle.turn_lock.specs.Rule.{own, returned, Course, IsHeld, Knows, Kept}
 use Rattle.turn_lock.specs.Views.{founder}
 use Rattle.turn_lock.specs.Steps.{FitsView}
 use Rattle.turn_lock.proofs.Lists.{extends_itself, entries_own, entries_other}

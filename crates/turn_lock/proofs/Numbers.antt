@@ -1,20 +1,18 @@
 -- Caller numbers are drawn, given to new seats, and given back. Each step keeps the rule.
-use Rattle.std.proofs.Common.{◌≡◌, ℕ, zero, suc, ◌+◌, ◌%◌, ◌^◌, ◌<◌, ◌≤◌, ◌≢◌, ◌⊎◌, inl, inr, Bool, true, false, cond, eqb, nat_lt, List, [], ◌∷◌, ◌++◌, length, set, All, IfSome, Option, Some, None, unwrap_or, refl, sym, ap, ◌∙◌, subst, ⊎_elim, arith, length-set, length-append, le_refl, eq-eqb, ne_eqb}
+use Rattle.std.proofs.Common.{◌≡◌, ℕ, ◌+◌, ◌%◌, ◌^◌, ◌<◌, ◌≤◌, ◌≢◌, true, false, cond, eqb, List, [], ◌∷◌, ◌++◌, length, set, All, IfSome, Option, Some, None, unwrap_or, refl, sym, ap, ◌∙◌, subst, ⊎_elim, arith, length-set, length-append, le_refl, eq-eqb, ne_eqb}
 use Rattle.std.proofs.lemmas.List.Elements.{All-append, All-cons, All-weaker, All-nil}
-use mathlib.Core.Logic.{dite}
 use mathlib.Core.Option.{some, none}
-use native.Mathlib.Decide.{ℕ_discrete, dec_le}
+use native.Mathlib.Decide.{dec_le}
 use lib.ListN.{get_elem?}
 use Rattle.atomic_table.specs.Table.{State, Me, step, keeps, Allows, Splits, Joins}
 use Rattle.atomic_table.proofs.Lists.{set_else, at_longer}
 use Rattle.turn_lock.specs.declared.stage.Stage.TheVariants.{Idle}
 use Rattle.turn_lock.specs.declared.view.View.{View}
-use Rattle.turn_lock.specs.Pass.{Extends, entries_of, longer}
-use Rattle.turn_lock.specs.Rule.{Role, own, noted, returned, Course, keeps_out, has_ticket, in_reserve, draws_no_more, total, tickets_out, reserves, retired, IsHeld, IsTicket, Stands, Knows, Counted, Kept}
-use Rattle.turn_lock.specs.Views.{founder, newcomer, spent, drawing, divided, divided_off, taken_in, compared}
+use Rattle.turn_lock.specs.Rule.{Role, own, noted, returned, Course, keeps_out, has_ticket, in_reserve, draws_no_more, IsHeld, Stands, Knows, Counted, Kept}
+use Rattle.turn_lock.specs.Views.{newcomer, spent, drawing, divided, divided_off, taken_in, compared}
 use Rattle.turn_lock.specs.Steps.{Draws, Compares}
-use Rattle.turn_lock.proofs.Lists.{over, over_here, over_else, set_at, below, at_push, total_set, total_push, extends_itself, longer_of}
-use Rattle.turn_lock.proofs.Seats.{each_set, noted_below, noted_above, few_retired, retired_most, counted_same, noted_on, own_noted, returned_noted, as_role, apart_as, apart_at, keeper_set, stands_on, knows_on, words_of, allowed}
+use Rattle.turn_lock.proofs.Lists.{over, over_here, over_else, below, at_push, total_set, total_push, longer_of}
+use Rattle.turn_lock.proofs.Seats.{each_set, noted_below, noted_above, few_retired, retired_most, counted_same, noted_on, own_noted, returned_noted, as_role, apart_as, apart_at, keeper_set, knows_on, allowed}
 
 -- a seat that draws a number notes it, in reserve where it is below the number of passes
 drawn_more : {E : Type 0} (passes made : ℕ) (views : List (View E)) (i : ℕ) (v : View E) → get_elem? views i ≡ some v → v.live ≡ true → v.drawn ≡ None

@@ -1,5 +1,5 @@
 -- What the seats know when one of them makes a step.
-use Rattle.std.proofs.Common.{◌≡◌, ℕ, zero, suc, ◌+◌, ◌%◌, ◌^◌, ◌<◌, ◌≤◌, ◌≢◌, Bool, true, false, cond, nat_lt, List, [], ◌∷◌, ◌++◌, length, slice_index, slice_set, set, All, IfSome, Option, Some, None, refl, sym, ap, ◌∙◌, subst, ⊎_elim, arith, length-set, length-append}
+use Rattle.std.proofs.Common.{◌≡◌, ℕ, ◌%◌, ◌^◌, ◌<◌, ◌≤◌, ◌≢◌, Bool, true, false, cond, nat_lt, List, [], ◌∷◌, length, slice_index, slice_set, set, IfSome, Option, Some, None, refl, sym, ap, ◌∙◌, subst, ⊎_elim, arith, length-set}
 use Rattle.std.proofs.lemmas.List.Elements.{All-weaker}
 use Rattle.std.proofs.lemmas.Bool.Decides.{nat_tests}
 use mathlib.Core.Logic.{dite}
@@ -12,7 +12,7 @@ use Rattle.turn_lock.specs.declared.stage.Stage.{Stage}
 use Rattle.turn_lock.specs.declared.stage.Stage.TheVariants.{Founds, Idle, Waits, Called, Holds}
 use Rattle.turn_lock.specs.declared.view.View.{View}
 use Rattle.turn_lock.specs.Pass.{Extends}
-use Rattle.turn_lock.specs.Rule.{Role, own, noted, returned, Course, keeps_out, has_ticket, in_reserve, draws_no_more, total, tickets_out, reserves, retired, IsHeld, IsTicket, Stands, Knows, Counted, Kept}
+use Rattle.turn_lock.specs.Rule.{Role, own, noted, returned, Course, keeps_out, has_ticket, in_reserve, draws_no_more, tickets_out, retired, IsHeld, IsTicket, Stands, Knows, Counted, Kept}
 use Rattle.turn_lock.proofs.Lists.{total_set, total_most, set_at}
 
 -- a fact of each seat after one has changed

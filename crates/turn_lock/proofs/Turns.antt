@@ -1,21 +1,20 @@
 -- Tickets are drawn and served, and the value is taken and given back. Each step keeps the rule.
-use Rattle.std.proofs.Common.{◌≡◌, ℕ, zero, suc, ◌+◌, ◌%◌, ◌^◌, ◌<◌, ◌≤◌, ◌≢◌, Bool, true, false, cond, eqb, List, [], ◌∷◌, ◌++◌, length, set, drop, All, Option, Some, None, MatchBool, refl, sym, ap, ◌∙◌, subst, arith, length-append, eq-eqb, ne_eqb}
+use Rattle.std.proofs.Common.{◌≡◌, ℕ, ◌+◌, ◌%◌, ◌^◌, ◌<◌, ◌≢◌, Bool, true, false, List, [], ◌∷◌, ◌++◌, length, set, drop, All, Option, Some, None, MatchBool, refl, sym, ap, ◌∙◌, subst, arith, length-append, eq-eqb, ne_eqb}
 use Rattle.std.proofs.Math.Seq.{drop-append_seam}
 use Rattle.std.proofs.lemmas.List.Elements.{All-weaker}
 use mathlib.Core.Logic.{dite}
 use mathlib.Core.Option.{Option as Home, some, none}
 use native.Mathlib.Decide.{ℕ_discrete}
 use lib.ListN.{get_elem?}
-use Rattle.atomic_table.specs.Table.{State, Me, Act, step, keeps, takes, gives, homes_after, carried_after, Allows}
+use Rattle.atomic_table.specs.Table.{State, Me, Act, step, keeps, takes, gives, homes_after, Allows}
 use Rattle.atomic_table.proofs.Lists.{one_turn, set_again}
-use Rattle.turn_lock.specs.declared.stage.Stage.{Stage}
 use Rattle.turn_lock.specs.declared.stage.Stage.TheVariants.{Founds, Idle, Waits, Called, Holds}
 use Rattle.turn_lock.specs.declared.view.View.{View}
-use Rattle.turn_lock.specs.Pass.{Extends, entries_of, Fits}
-use Rattle.turn_lock.specs.Rule.{Role, own, noted, returned, Course, keeps_out, has_ticket, total, tickets_out, IsHeld, IsTicket, Stands, Knows, Counted, Kept}
+use Rattle.turn_lock.specs.Pass.{Extends, entries_of}
+use Rattle.turn_lock.specs.Rule.{Role, own, noted, returned, Course, keeps_out, has_ticket, IsHeld, IsTicket, Stands, Knows, Kept}
 use Rattle.turn_lock.specs.Views.{ticket_of, at_stage, holding, adding}
-use Rattle.turn_lock.specs.Steps.{FitsView, Queues, LooksUp, Takes, Adds, PassesOn, Opens}
-use Rattle.turn_lock.proofs.Lists.{over, over_here, over_else, total_set, total_has, extends_itself, extends_more, set_at, entries_grown, entries_stay}
+use Rattle.turn_lock.specs.Steps.{Queues, LooksUp, Takes, Adds, PassesOn, Opens}
+use Rattle.turn_lock.proofs.Lists.{over, over_here, over_else, total_set, extends_itself, extends_more, set_at, entries_grown, entries_stay}
 use Rattle.turn_lock.proofs.Seats.{each_set, few_tickets, counted_same, keeper_set, keeper_has, waiting, stands_on, noted_on, noted_at, knows_on, words_of, allowed, noted_own, returned_own, as_role, apart_as, apart_at}
 
 is_false : (b : Bool) → (b ≡ true → ⊥) → b ≡ false

@@ -1,13 +1,13 @@
 -- The rule of a lock: what holds of its words, of its slot and of what all seats know, between any two steps.
 -- The words are the length of the history, the next caller number, the tickets drawn and the tickets served.
-use Rattle.std.specs.Prelude.{◌≡◌, ℕ, zero, ◌+◌, ◌%◌, ◌^◌, ◌<◌, ◌≤◌, nat_lt, cond, Bool, true, false, List, [], ◌∷◌, ◌++◌, length, Option, Some, None, IfSome, All}
+use Rattle.std.specs.Prelude.{◌≡◌, ℕ, ◌+◌, ◌%◌, ◌^◌, ◌<◌, ◌≤◌, nat_lt, cond, Bool, true, false, List, [], ◌∷◌, length, Option, Some, None, IfSome, All}
 use mathlib.Core.Option.{some}
 use lib.ListN.{get_elem?}
 use Rattle.atomic_table.specs.Table.{State}
 use Rattle.turn_lock.specs.declared.stage.Stage.{Stage}
 use Rattle.turn_lock.specs.declared.stage.Stage.TheVariants.{Founds, Idle, Waits, Called, Holds}
 use Rattle.turn_lock.specs.declared.view.View.{View}
-use Rattle.turn_lock.specs.Pass.{Extends, entries_of, Fits}
+use Rattle.turn_lock.specs.Pass.{Extends, entries_of}
 
 -- Whose a caller number is to a seat: its own, one that it notes, or one that was given back to it
 pub data Role : Type 0 where

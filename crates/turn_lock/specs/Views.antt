@@ -1,5 +1,5 @@
 -- What each step makes of what a seat knows.
-use Rattle.std.specs.Prelude.{ℕ, ◌<◌, Bool, true, false, List, [], ◌∷◌, ◌++◌, Option, Some, None, unwrap_or}
+use Rattle.std.specs.Prelude.{ℕ, true, false, List, [], ◌∷◌, ◌++◌, Option, None, unwrap_or}
 use Rattle.turn_lock.specs.declared.stage.Stage.{Stage}
 use Rattle.turn_lock.specs.declared.stage.Stage.TheVariants.{Founds, Idle, Waits, Called, Holds}
 use Rattle.turn_lock.specs.declared.view.View.{View}
