@@ -11,12 +11,12 @@ mod reading;
 mod timing;
 mod typed;
 
+use crate::typed::empty;
 use anyhow::Result;
-use phys_columns::Columns;
 use std::io;
 
 fn main(rt: HostRuntime) -> Result<()> {
     let text = io::read_to_string(rt.alloc(), rt.stdin())?;
-    let mut columns = Columns::new(rt.alloc());
+    let mut columns = empty(rt.alloc());
     commands::run_all(&rt, &mut columns, text.as_str())
 }

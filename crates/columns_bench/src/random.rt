@@ -1,10 +1,10 @@
 ghost use Rattle.columns_bench.specs.Typed.{AreTyped};
 
 use crate::reading::shown;
-use crate::typed::{clear, kind_by, put, value_by};
+use crate::typed::{clear, empty, kind_by, put, value_by};
 use anyhow::{Result, bail};
-use doc_values::{AttrId, CompareOp, Kind, Value};
-use phys_columns::{Columns, CompareInt, ValueRef};
+use doc_values::{AttrId, CompareOp, Kind};
+use phys_columns::{Columns, CompareInt, Mask, ValueRef};
 use std::alloc::Global;
 use std::collections::BTreeMap;
 
@@ -27,7 +27,7 @@ const OPS: [CompareOp; 6] = [
 
 /// Runs so many puts and clears on columns and on a map, and compares all that can be read after each and at the end.
 pub(crate) fn compare(alloc: Global, seed: u32, count: u32) -> Result<String> {
-    let mut columns = Columns::new(alloc);
+    let mut columns = empty(alloc);
     let mut numbers = BTreeMap::new(alloc);
     let mut state = seed;
     for _ in 0..count {
@@ -55,7 +55,7 @@ fn version_by(state: u32) -> u32 {
     } else {
         (state >> 13) % 1_024
     };
-    page * 1_024 + place
+    page.wrapping_mul(1_024).wrapping_add(place)
 }
 
 // Puts a value in a cell, or in one of three cases takes it out, on both sides, and reads the cell.
@@ -101,10 +101,11 @@ fn is_named(alloc: Global, value: Option<ValueRef>, id: u32, number: Option<i64>
 
 // Compares the walk and the filters of each page with the map.
 fn compare_pages(alloc: Global, columns: &Columns, numbers: &Numbers) -> Result<()> {
-    let mut walked = 0;
+    let mut walked = 0usize;
     for id in 0..IDS {
         for page in PAGES {
-            walked += compare_walk(alloc, columns, numbers, id, page)?;
+            let count = compare_walk(alloc, columns, numbers, id, page)?;
+            walked = walked.wrapping_add(count);
             if matches!(kind_by(id), Kind::Int) {
                 compare_filters(columns, numbers, id, page)?;
             }
@@ -118,7 +119,7 @@ fn compare_pages(alloc: Global, columns: &Columns, numbers: &Numbers) -> Result<
 
 // How many values a walk gives, which rise by version and are those of the map.
 fn compare_walk(alloc: Global, columns: &Columns, numbers: &Numbers, id: u32, page: u32) -> Result<usize> {
-    let mut count = 0;
+    let mut count = 0usize;
     let mut last = None;
     for (version, value) in columns.walk(AttrId(id), page) {
         if last >= Some(version) || version / 1_024 != page {
@@ -128,25 +129,40 @@ fn compare_walk(alloc: Global, columns: &Columns, numbers: &Numbers, id: u32, pa
             bail!("a walk gives another value");
         }
         last = Some(version);
-        count += 1;
+        count = count.wrapping_add(1);
     }
     Ok(count)
 }
 
 // Compares the filters of a page by each sign, and by numbers that stand in it and some that do not.
 fn compare_filters(columns: &Columns, numbers: &Numbers, id: u32, page: u32) -> Result<()> {
+    let first = number_at(numbers, id, page, 0).unwrap_or(7);
     for op in OPS {
-        for with in [0, -1, i64::MIN, i64::MAX, numbers.get(&(id, 1_024 * page)).copied().unwrap_or(7)] {
-            let mask = columns.filter_page(AttrId(id), page, CompareInt { op, with });
-            for place in 0..1_024_u32 {
-                let met = numbers
-                    .get(&(id, 1_024 * page + place))
-                    .is_some_and(|number| op.admits(number.cmp(&with)));
-                if ((mask.words[(place / 64) as usize] >> (place % 64)) & 1 == 1) != met {
-                    bail!("a bit of a mask differs");
-                }
+        for with in [0, -1, i64::MIN, i64::MAX, first] {
+            let test = CompareInt { op, with };
+            let mask = columns.filter_page(AttrId(id), page, test);
+            compare_mask(&mask, numbers, id, page, test)?;
+        }
+    }
+    Ok(())
+}
+
+fn compare_mask(mask: &Mask, numbers: &Numbers, id: u32, page: u32, test: CompareInt) -> Result<()> {
+    for word in 0..16_usize {
+        for bit in 0..64_u32 {
+            let place = 64 * word as u32 + bit;
+            let met = number_at(numbers, id, page, place)
+                .is_some_and(|number| test.op.admits(number.cmp(&test.with)));
+            if ((mask.words[word] >> bit) & 1 == 1) != met {
+                bail!("a bit of a mask differs");
             }
         }
     }
     Ok(())
+}
+
+// The number at a place of a page in the map.
+fn number_at(numbers: &Numbers, id: u32, page: u32, place: u32) -> Option<i64> {
+    let version = page.wrapping_mul(1_024).wrapping_add(place);
+    numbers.get(&(id, version)).copied()
 }

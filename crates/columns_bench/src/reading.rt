@@ -1,6 +1,6 @@
 use anyhow::Result;
-use doc_values::{AttrId, Kind, Value};
-use phys_columns::{Columns, CompareInt, Mask, ValueRef};
+use doc_values::AttrId;
+use phys_columns::{Columns, Mask, ValueRef};
 use std::alloc::Global;
 
 /// A value as it is printed, or `none`.

@@ -1,4 +1,4 @@
-ghost use Rattle.std.specs.Prelude.{◌≡◌, ◌×◌, IfOk};
+ghost use Rattle.std.specs.Prelude.{◌≡◌, IfOk};
 ghost use Rattle.doc_values.specs.Value.{kind_of, IsStorable};
 ghost use Rattle.columns_bench.specs.Typed.{kind_by, AreTyped};
 
@@ -37,6 +37,13 @@ pub(crate) fn value_by(alloc: Global, kind: Kind, number: i64) -> Result<Value>
         }
         Kind::Object => Ok(Value::Object),
     }
+}
+
+/// Columns without a value.
+pub(crate) fn empty(alloc: Global) -> Columns
+    ensures { AreTyped result.cells }
+{
+    Columns::new(alloc)
 }
 
 /// Puts the value that a number names in a cell.
