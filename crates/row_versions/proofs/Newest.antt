@@ -1,14 +1,14 @@
 -- What rows show after the last commit, and that nothing begins or ends after it.
-use Rattle.std.proofs.Common.{◌≡◌, ◌≢◌, ℕ, zero, suc, ◌+◌, ◌-◌, ◌<◌, ◌≤◌, ◌⊎◌, inl, inr, Bool, true, false, cond, not, max, ◌&&◌, ◌==◌, nat_le, List, [], ◌∷◌, ◌++◌, length, map, set, Option, Some, None, option_map, is_some, slice_get, position, refl, sym, ap, subst, ◌∙◌, arith}
+use Rattle.std.proofs.Common.{◌≡◌, ℕ, zero, suc, ◌<◌, ◌≤◌, inl, inr, Bool, true, false, cond, not, ◌&&◌, ◌==◌, nat_le, List, [], ◌∷◌, set, Option, Some, None, option_map, is_some, slice_get, refl, sym, ap, ◌∙◌, arith}
 use Rattle.std.specs.List.{filter}
 use Rattle.std.specs.Option.{option_map_or}
-use Rattle.std.proofs.lemmas.Bool.{le-ltb, le-leb, ltb-true, cases_lt}
+use Rattle.std.proofs.lemmas.Bool.{le-ltb, le-leb, ltb-true}
 use Rattle.row_versions.specs.declared.version.Version.{Version}
-use Rattle.row_versions.specs.History.{version_at, rows_of, visible, newest, is_seen, is_open, is_newest, begun, ended, given_up, changed, end_before, reopened, rolled_back}
+use Rattle.row_versions.specs.History.{version_at, is_seen, is_open, is_newest, begun, ended, given_up, reopened}
 use Rattle.row_versions.specs.Order.{IsLatest}
 use Rattle.row_versions.specs.Shows.{LatestShow, LatestStays}
 use Rattle.row_versions.proofs.Places.{get-push, get-set, get-map, passes, position-agree, position-none}
-use Rattle.row_versions.proofs.Seen.{foreign-old, changed-is}
+use Rattle.row_versions.proofs.Seen.{foreign-old}
 use Rattle.row_versions.proofs.RolledBack.{below, end-kept}
 use Rattle.row_versions.proofs.Rows.{row-below}
 

@@ -1,4 +1,4 @@
-use Rattle.std.proofs.Common.{sym, arith}
+use Rattle.std.proofs.Common.{arith}
 use Rattle.row_versions.proofs.Shown.{within-shown, links-many}
 use Rattle.row_versions.proofs.version_list.VersionList.len.Goals as goal
 

@@ -1,7 +1,6 @@
-use Rattle.std.proofs.Common.{◌≡◌, ℕ, ◌<◌, ◌≤◌, Option, IfSome, ◌+◌, None, length, slice_get, sym, ap, subst, ◌∙◌, arith}
+use Rattle.std.proofs.Common.{ℕ, ◌<◌, Option, IfSome, length, slice_get, sym, ap, subst, ◌∙◌, arith}
 use Rattle.row_versions.specs.History.{History, rows_of, newest}
 use Rattle.row_versions.specs.Order.{IsLatest}
-use Rattle.row_versions.specs.Inside.{Linked}
 use Rattle.row_versions.specs.Stored.{no_place}
 use Rattle.row_versions.proofs.EndPlaces.{few-ended}
 use Rattle.row_versions.proofs.Rows.{rows-are, link-of, near-link}
