@@ -1,12 +1,12 @@
 -- Taking versions away from the end of the list, down to those that begin before a commit.
-use Rattle.std.proofs.Common.{◌≡◌, ℕ, zero, suc, ◌+◌, ◌-◌, ◌<◌, ◌≤◌, ◌⊎◌, inl, inr, Bool, true, false, cond, List, [], ◌∷◌, ◌++◌, length, Option, Some, None, slice_get, refl, sym, ap, subst, ◌∙◌, arith, length-append}
+use Rattle.std.proofs.Common.{◌≡◌, ℕ, ◌-◌, ◌<◌, ◌≤◌, ◌⊎◌, inl, inr, Bool, false, cond, List, [], ◌∷◌, ◌++◌, length, Some, None, slice_get, sym, ap, subst, ◌∙◌, arith, length-append}
 use Rattle.std.specs.List.{filter}
 use Rattle.std.proofs.lemmas.Bool.{cases_order, le-ltb}
 use Rattle.std.proofs.lemmas.Option.{slice_get_within}
 use Rattle.row_versions.specs.declared.version.Version.{Version}
 use Rattle.row_versions.specs.Order.{BeginsRise}
-use Rattle.row_versions.specs.Inside.{AreLinked, AreNewest, AreEnded, Linked, HasOneBehind}
-use Rattle.row_versions.proofs.Places.{get-front, get-last, has-front, no-last, same-last}
+use Rattle.row_versions.specs.Inside.{AreEnded, Linked, HasOneBehind}
+use Rattle.row_versions.proofs.Places.{get-front, get-last, no-last, same-last}
 use Rattle.row_versions.proofs.EndPlaces.{ended-pop}
 use Rattle.row_versions.proofs.RolledBack.{below, keeps-all}
 

@@ -1,12 +1,10 @@
 -- The places of the versions that ended, by their ends.
-use Rattle.std.proofs.Common.{◌≡◌, ◌≢◌, ℕ, zero, suc, ◌+◌, ◌-◌, ◌<◌, ◌≤◌, ◌⊎◌, inl, inr, Bool, true, false, cond, nat_lt, nat_le, List, [], ◌∷◌, ◌++◌, length, take, drop, map, set, Option, Some, None, is_some, slice_get, get_or, refl, sym, ap, subst, ◌∙◌, arith, length-append, length-set}
-use Rattle.std.proofs.lemmas.Bool.{cases_eq, cases_lt, cases_order, lt-ltb, le-ltb, leb-true, leb-false, ltb-true, ltb-false}
+use Rattle.std.proofs.Common.{◌≡◌, ◌≢◌, ℕ, zero, suc, ◌+◌, ◌-◌, ◌<◌, ◌≤◌, ◌⊎◌, inl, inr, true, List, [], ◌∷◌, ◌++◌, length, set, Option, Some, None, is_some, slice_get, get_or, refl, sym, ap, subst, ◌∙◌, arith, length-append}
+use Rattle.std.proofs.lemmas.Bool.{cases_eq, cases_order}
 use Rattle.std.proofs.lemmas.Option.{slice_get_within, slice_get-get_or}
 use Rattle.row_versions.specs.declared.version.Version.{Version}
-use Rattle.row_versions.specs.History.{begun, ended, endless, end_before, reopened}
-use Rattle.row_versions.specs.Order.{AreOrdered, BeginsRise}
 use Rattle.row_versions.specs.Inside.{HasEnd, one_of, count_ended, AreEnded, SplitsEnds}
-use Rattle.row_versions.proofs.Places.{get-front, get-last, get-push, get-set, get-set_same, get-set_other, get-within, get-map}
+use Rattle.row_versions.proofs.Places.{get-front, get-last, get-push, get-set, get-set_same, get-set_other}
 
 -- ---- ends by place
 

@@ -1,10 +1,8 @@
 -- One place more among those of the versions that ended, at the end of those whose ends are at most its own.
-use Rattle.std.proofs.Common.{◌≡◌, ◌≢◌, ℕ, zero, suc, ◌+◌, ◌-◌, ◌<◌, ◌≤◌, ◌⊎◌, inl, inr, true, List, [], ◌∷◌, ◌++◌, length, take, drop, set, Option, Some, None, is_some, slice_get, refl, sym, ap, subst, ◌∙◌, arith, length-append, length-set}
-use Rattle.std.proofs.lemmas.Bool.{cases_eq, cases_lt, cases_order}
-use Rattle.std.proofs.lemmas.Option.{slice_get_within}
+use Rattle.std.proofs.Common.{◌≡◌, ◌≢◌, ℕ, zero, suc, ◌+◌, ◌<◌, ◌≤◌, ◌⊎◌, inl, inr, List, [], ◌∷◌, ◌++◌, length, take, drop, set, Some, None, slice_get, refl, sym, ap, subst, ◌∙◌, arith}
 use Rattle.row_versions.specs.declared.version.Version.{Version}
 use Rattle.row_versions.specs.History.{ended}
-use Rattle.row_versions.specs.Inside.{HasEnd, count_ended, AreEnded, SplitsEnds}
+use Rattle.row_versions.specs.Inside.{HasEnd, AreEnded, SplitsEnds}
 use Rattle.row_versions.proofs.Places.{get-set, get-set_same, get-set_other}
 use Rattle.row_versions.proofs.EndPlaces.{count-end}
 

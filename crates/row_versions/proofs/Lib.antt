@@ -9,6 +9,7 @@ pub mod Reopened
 pub mod RolledBack
 pub mod Rows
 pub mod Seen
+pub mod Shown
 pub mod Together
 pub mod TouchLists
 pub mod Walk

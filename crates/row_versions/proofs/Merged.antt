@@ -1,5 +1,5 @@
 -- One change for each commit and row, from the commits at which versions begin and end, in order.
-use Rattle.std.proofs.Common.{◌≡◌, ◌≢◌, ℕ, zero, suc, ◌+◌, ◌-◌, ◌<◌, ◌≤◌, ◌⊎◌, inl, inr, Bool, true, false, cond, ◌==◌, Ordering, Less, Equal, Greater, is_lt, nat_cmp, List, [], ◌∷◌, ◌++◌, length, Option, Some, None, slice_get, get_or, refl, sym, ap, subst, ◌∙◌, arith}
+use Rattle.std.proofs.Common.{◌≡◌, ℕ, zero, suc, ◌+◌, ◌-◌, ◌<◌, ◌≤◌, ◌⊎◌, inl, inr, Bool, false, cond, ◌==◌, Ordering, Less, Equal, Greater, is_lt, nat_cmp, List, [], ◌∷◌, ◌++◌, length, Option, Some, None, slice_get, get_or, refl, sym, ap, subst, ◌∙◌, arith}
 use Rattle.std.specs.List.{Contains}
 use Rattle.std.specs.List.Sorted.{IsPermutation}
 use Rattle.std.specs.Ordering.{ordering_then}
@@ -12,7 +12,7 @@ use Rattle.row_versions.specs.declared.change.Change.{Change}
 use Rattle.row_versions.specs.History.{visible}
 use Rattle.row_versions.specs.Order.{AreOrdered}
 use Rattle.row_versions.specs.Inside.{StartsAt}
-use Rattle.row_versions.specs.Changes.{Touches, IsChange, ComesBefore, AreChanges}
+use Rattle.row_versions.specs.Changes.{IsChange, ComesBefore, AreChanges}
 use Rattle.row_versions.specs.Touched.{IsTouch, AreTouches, AreAlike, NotAfter, AreInOrder}
 use Rattle.row_versions.proofs.Places.{get-front, get-last, get-push, get-within}
 

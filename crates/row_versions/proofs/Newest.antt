@@ -1,14 +1,14 @@
 -- What rows show after the last commit, and that nothing begins or ends after it.
-use Rattle.std.proofs.Common.{◌≡◌, ◌≢◌, ℕ, zero, suc, ◌+◌, ◌-◌, ◌<◌, ◌≤◌, ◌⊎◌, inl, inr, Bool, true, false, cond, not, max, ◌&&◌, ◌==◌, nat_le, List, [], ◌∷◌, ◌++◌, length, map, set, Option, Some, None, option_map, is_some, slice_get, position, refl, sym, ap, subst, ◌∙◌, arith}
+use Rattle.std.proofs.Common.{◌≡◌, ℕ, zero, suc, ◌<◌, ◌≤◌, inl, inr, Bool, true, false, cond, not, ◌&&◌, ◌==◌, nat_le, List, [], ◌∷◌, set, Option, Some, None, option_map, is_some, slice_get, refl, sym, ap, ◌∙◌, arith}
 use Rattle.std.specs.List.{filter}
 use Rattle.std.specs.Option.{option_map_or}
-use Rattle.std.proofs.lemmas.Bool.{le-ltb, le-leb, ltb-true, cases_lt}
+use Rattle.std.proofs.lemmas.Bool.{le-ltb, le-leb, ltb-true}
 use Rattle.row_versions.specs.declared.version.Version.{Version}
-use Rattle.row_versions.specs.History.{version_at, rows_of, visible, newest, is_seen, is_open, is_newest, begun, ended, given_up, changed, end_before, reopened, rolled_back}
+use Rattle.row_versions.specs.History.{version_at, is_seen, is_open, is_newest, begun, ended, given_up, reopened}
 use Rattle.row_versions.specs.Order.{IsLatest}
 use Rattle.row_versions.specs.Shows.{LatestShow, LatestStays}
 use Rattle.row_versions.proofs.Places.{get-push, get-set, get-map, passes, position-agree, position-none}
-use Rattle.row_versions.proofs.Seen.{foreign-old, changed-is}
+use Rattle.row_versions.proofs.Seen.{foreign-old}
 use Rattle.row_versions.proofs.RolledBack.{below, end-kept}
 use Rattle.row_versions.proofs.Rows.{row-below}
 
@@ -28,11 +28,11 @@ open_newest commit (Some end) h = sym (le-ltb commit end (h end refl))
 pub latest-show : LatestShow
 latest-show = record {
   settled = λ commit n row xs is le. ap (option_map version_at) (position-agree (is_seen row n) (is_seen row commit) xs xs (passes_by (is_seen row n) (is_seen row commit) xs (λ i v at.
-    ap (λ b. v.row == row && (b && is_open n v.end)) (le-leb v.begin n (omega (arith, is.begins i v at)) ∙ sym (le-leb v.begin commit (is.begins i v at)))
-    ∙ ap (λ b. v.row == row && (nat_le v.begin commit && b)) (open_later commit n v.end le (λ end e. is.ends i v end at e)))));
+      ap (λ b. v.row == row && (b && is_open n v.end)) (le-leb v.begin n (omega (arith, is.begins i v at)) ∙ sym (le-leb v.begin commit (is.begins i v at)))
+      ∙ ap (λ b. v.row == row && (nat_le v.begin commit && b)) (open_later commit n v.end le (λ end e. is.ends i v end at e)))));
   standing = λ commit row xs is. ap (option_map version_at) (position-agree (is_newest row) (is_seen row commit) xs xs (passes_by (is_newest row) (is_seen row commit) xs (λ i v at.
-    ap (λ b. v.row == row && b) (open_newest commit v.end (λ end e. is.ends i v end at e))
-    ∙ ap (λ b. v.row == row && (b && is_open commit v.end)) (sym (le-leb v.begin commit (is.begins i v at))))));
+      ap (λ b. v.row == row && b) (open_newest commit v.end (λ end e. is.ends i v end at e))
+      ∙ ap (λ b. v.row == row && (b && is_open commit v.end)) (sym (le-leb v.begin commit (is.begins i v at))))));
   unborn = λ row xs le. ap (option_map version_at) (position-none (is_newest row) xs (λ i v at. foreign-old row v (λ e. absurd (omega (arith, row-below xs i v at)))));
 }
 
@@ -41,11 +41,13 @@ latest-show = record {
 set_latest : (n place : ℕ) (v w : Version) (xs : List Version) → IsLatest n xs → slice_get xs place ≡ Some v → w.begin ≡ v.begin → ((end : ℕ) → w.end ≡ Some end → end ≤ n) → IsLatest n (set xs place w)
 set_latest n place v w xs is at same ends = record {
   begins = λ i u there. elim (get-set xs place w i u there) [
-    inl here ↦ omega (arith, ap (λ (z : Version). z.begin) here.1, same, is.begins place v at) |
-    inr else ↦ is.begins i u else.1 ];
+    | inl here ↦ omega (arith, ap (λ (z : Version). z.begin) here.1, same, is.begins place v at)
+    | inr else ↦ is.begins i u else.1
+  ];
   ends = λ i u end there e. elim (get-set xs place w i u there) [
-    inl here ↦ ends end (ap (λ (z : Version). z.end) (sym here.1) ∙ e) |
-    inr else ↦ is.ends i u end else.1 e ];
+    | inl here ↦ ends end (ap (λ (z : Version). z.end) (sym here.1) ∙ e)
+    | inr else ↦ is.ends i u end else.1 e
+  ];
 }
 
 change_latest : (n place : ℕ) (change : Version → Version) (xs : List Version) (o : Option Version) → slice_get xs place ≡ o → IsLatest n xs → ((v : Version) → (change v).begin ≡ v.begin) → ((v : Version) (end : ℕ) → o ≡ Some v → (change v).end ≡ Some end → end ≤ n) → IsLatest n (option_map_or (λ v. set xs place (change v)) o xs)
@@ -68,18 +70,19 @@ latest-stays = record {
   appended = λ n row commit xs is le. record {
     begins = λ i v at. elim (get-push xs (begun row commit) i v at) [ inl old ↦ is.begins i v old | inr new ↦ omega (arith, ap (λ (z : Version). z.begin) new.1) ];
     ends = λ i v end at e. elim (get-push xs (begun row commit) i v at) [
-      inl old ↦ is.ends i v end old e |
-      inr new ↦ let impossible : None ≡ Some end = ap (λ (z : Version). z.end) (sym new.1) ∙ e in absurd (cc) ];
+      | inl old ↦ is.ends i v end old e
+      | inr new ↦ let impossible : None ≡ Some end = ap (λ (z : Version). z.end) (sym new.1) ∙ e in absurd (cc)
+    ];
   };
   ended = λ n place commit xs is le. change_latest n place (ended commit) xs (slice_get xs place) refl is (λ v. refl) (λ v end at e. let same : commit ≡ end = cc in omega arith);
   emptied = λ n place xs is. change_latest n place given_up xs (slice_get xs place) refl is (λ v. refl) (λ v end at e. is.ends place v end at e);
   back = λ commit xs some. record {
     begins = λ i w at.
-      let u = get-map (reopened commit) (filter (below commit) xs) i w at in
-      omega (arith, all_early commit xs i u.0 u.1, ap (λ (z : Version). z.begin) u.2);
+        let u = get-map (reopened commit) (filter (below commit) xs) i w at in
+        omega (arith, all_early commit xs i u.0 u.1, ap (λ (z : Version). z.begin) u.2);
     ends = λ i w end at e.
-      let u = get-map (reopened commit) (filter (below commit) xs) i w at in
-      let k = end-kept commit end u.0.end (ap (λ (z : Version). z.end) (sym u.2) ∙ e) in
-      omega (arith, k.1);
+        let u = get-map (reopened commit) (filter (below commit) xs) i w at in
+        let k = end-kept commit end u.0.end (ap (λ (z : Version). z.end) (sym u.2) ∙ e) in
+        omega (arith, k.1);
   };
 }

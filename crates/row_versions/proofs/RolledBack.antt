@@ -1,13 +1,13 @@
 -- The versions before a commit are a front of the list, since begins rise.
-use Rattle.std.proofs.Common.{◌≡◌, ◌≢◌, ℕ, zero, suc, ◌+◌, ◌-◌, ◌<◌, ◌≤◌, ◌⊎◌, inl, inr, Bool, true, false, cond, ◌&&◌, ◌==◌, nat_lt, nat_le, List, [], ◌∷◌, ◌++◌, length, map, set, Option, Some, None, option_map, slice_get, position, refl, sym, ap, ◌∙◌, arith}
+use Rattle.std.proofs.Common.{◌≡◌, ℕ, zero, suc, ◌-◌, ◌<◌, ◌≤◌, ◌⊎◌, inl, inr, Bool, true, false, cond, ◌&&◌, ◌==◌, nat_lt, nat_le, List, [], ◌∷◌, ◌++◌, length, map, set, Option, Some, None, option_map, slice_get, refl, sym, ap, ◌∙◌, arith}
 use Rattle.std.specs.List.{filter}
-use Rattle.std.proofs.lemmas.Bool.{and_left, and_right, false_from_ne_true, lt-ltb, le-ltb, le-leb, lt-leb, ltb-true, ltb-false, leb-true, cases_lt}
+use Rattle.std.proofs.lemmas.Bool.{lt-ltb, le-ltb, le-leb, ltb-true, ltb-false, cases_lt}
 use Rattle.row_versions.specs.declared.version.Version.{Version}
-use Rattle.row_versions.specs.History.{History, version_at, visible, is_seen, is_open, begun, ended, changed, end_before, reopened, rolled_back}
-use Rattle.row_versions.specs.Order.{HasEndedBy, BeginsRise, AreOrdered, IsLatest, KeepsOrder}
+use Rattle.row_versions.specs.History.{version_at, is_seen, is_open, begun, ended, end_before, reopened, rolled_back}
+use Rattle.row_versions.specs.Order.{BeginsRise, AreOrdered, IsLatest, KeepsOrder}
 use Rattle.row_versions.specs.Shows.{ShowsBefore, RollBacksShow}
 use Rattle.row_versions.proofs.Places.{get-map, passes, position-agree}
-use Rattle.row_versions.proofs.Seen.{changed-is, early-unseen, ended-unseen}
+use Rattle.row_versions.proofs.Seen.{changed-is, early-unseen}
 
 abbrev pub below : ℕ → Version → Bool
 below commit v = nat_lt v.begin commit

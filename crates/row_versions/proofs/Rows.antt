@@ -1,16 +1,15 @@
 -- How many rows there are, and that only the rows of versions matter to links and last places.
-use Rattle.std.proofs.Common.{◌≡◌, ◌≢◌, ℕ, zero, suc, ◌+◌, ◌-◌, ◌<◌, ◌≤◌, ◌⊎◌, inl, inr, Bool, true, false, max, cond, List, [], ◌∷◌, ◌++◌, length, map, set, Option, Some, None, IfSome, is_some, option_map, slice_get, get_or, position, refl, sym, ap, subst, ◌∙◌, arith, length-append, length-set}
+use Rattle.std.proofs.Common.{◌≡◌, ℕ, zero, suc, ◌+◌, ◌<◌, ◌≤◌, ◌⊎◌, inl, inr, false, cond, List, [], ◌∷◌, ◌++◌, length, map, set, Option, Some, None, IfSome, is_some, option_map, slice_get, get_or, refl, sym, ap, subst, ◌∙◌, arith, length-append, length-set}
 use Rattle.std.proofs.lemmas.List.{length-map}
 use Rattle.std.proofs.lemmas.Bool.{cases_eq, cases_lt, cases_order}
 use Rattle.std.proofs.lemmas.Option.{slice_get_within, slice_get_read}
 use Rattle.row_versions.specs.declared.version.Version.{Version}
-use Rattle.row_versions.specs.declared.version_id.VersionId.{VersionId}
-use Rattle.row_versions.specs.History.{version_at, rows_of, begun, newest, is_newest, reopened}
-use Rattle.row_versions.specs.Order.{HasEndedBy, AreOrdered, IsLatest}
+use Rattle.row_versions.specs.History.{version_at, most_versions, rows_of, newest, is_newest, reopened}
+use Rattle.row_versions.specs.Order.{AreOrdered}
 use Rattle.row_versions.specs.Inside.{AreOther, IsPlaceOfLast, IsLast, AreLinked, AreNewest, noted}
+use Rattle.row_versions.specs.Stored.{no_place}
 use Rattle.row_versions.proofs.Places.{get-front, get-last, get-push, get-set, get-set_same, get-set_other, get-within, get-map, position-none, position-at}
 use Rattle.row_versions.proofs.Seen.{one-newest, ended-old, foreign-old}
-use Rattle.row_versions.proofs.LastPlaces.{other-push, last-push, linked-push}
 
 pub if-some : {X : Type 0} (o : Option X) (P : X → Type 0) (x : X) → o ≡ Some x → IfSome o P → P x
 if-some None P x e h = absurd (cc)
@@ -151,6 +150,11 @@ link_of row xs lasts (Some p) a some = a.each row p some
 
 pub link-of : (row : ℕ) (xs : List Version) (lasts : List ℕ) → AreNewest xs lasts → IsLast row xs (length xs) (slice_get lasts row)
 link-of row xs lasts a = link_of row xs lasts (slice_get lasts row) a refl
+
+-- a link is a place, and no number that stands for none
+pub near-link : (row : ℕ) (xs : List Version) (o : Option ℕ) → IsLast row xs (length xs) o → length xs ≤ most_versions → IfSome o (λ place. place < no_place)
+near-link row xs None last few = tt
+near-link row xs (Some p) last few = omega (arith, last.within)
 
 module _ (xs : List Version) (lasts : List ℕ) (v : Version) (a : AreNewest xs lasts) (most : v.row ≤ length lasts) where
   early_push : (i : ℕ) (w : Version) → slice_get (xs ++ v ∷ []) i ≡ Some w → w.row ≤ i

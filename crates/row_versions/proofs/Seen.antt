@@ -1,13 +1,12 @@
 -- Whether a version is seen, and what rows show after a change.
-use Rattle.std.proofs.Common.{◌≡◌, ◌≢◌, ℕ, zero, suc, ◌+◌, ◌-◌, ◌<◌, ◌≤◌, ◌⊎◌, inl, inr, Bool, true, false, not, cond, ◌&&◌, ◌==◌, nat_lt, nat_le, List, [], ◌∷◌, ◌++◌, length, map, set, Option, Some, None, option_map, is_some, slice_get, position, refl, sym, ap, ◌∙◌, arith}
-use Rattle.std.specs.List.{filter}
+use Rattle.std.proofs.Common.{◌≡◌, ◌≢◌, ℕ, ◌<◌, ◌≤◌, ◌⊎◌, inl, inr, Bool, true, false, not, ◌&&◌, ◌==◌, nat_le, List, [], ◌∷◌, ◌++◌, length, set, Option, Some, None, option_map, is_some, slice_get, position, refl, sym, ap, ◌∙◌, arith}
 use Rattle.std.specs.Option.{option_map_or}
-use Rattle.std.proofs.lemmas.Bool.{and_left, and_right, and_from, and_parts, false_from_ne_true, lt-ltb, le-ltb, le-leb, lt-leb, ne_eqb, eq-eqb, ltb-true, leb-true, eqb-true, cases_lt, cases_Bool, cond-true, cond-false}
+use Rattle.std.proofs.lemmas.Bool.{and_left, and_right, and_from, lt-ltb, le-ltb, le-leb, lt-leb, ne_eqb, eq-eqb, eqb-true, cases_lt}
 use Rattle.row_versions.specs.declared.version.Version.{Version}
-use Rattle.row_versions.specs.History.{version_at, visible, newest, is_seen, is_open, is_newest, begun, ended, endless, given_up, changed, end_before, reopened, rolled_back}
-use Rattle.row_versions.specs.Order.{HasEndedBy, BeginsRise, AreOrdered, IsLatest}
-use Rattle.row_versions.specs.Shows.{ShowsFrom, AppendsShow, EndingsShow, ShowsBefore, RollBacksShow, EmptiesShow}
-use Rattle.row_versions.proofs.Places.{get-last, get-push, get-set, get-set_same, passes, passes-push, passes-set, position-agree, position-none, position-at, none-position}
+use Rattle.row_versions.specs.History.{version_at, visible, newest, is_seen, is_open, is_newest, begun, ended, given_up, changed}
+use Rattle.row_versions.specs.Order.{HasEndedBy, AreOrdered, IsLatest}
+use Rattle.row_versions.specs.Shows.{AppendsShow, EndingsShow, EmptiesShow}
+use Rattle.row_versions.proofs.Places.{get-last, get-push, get-set, passes, passes-push, passes-set, position-agree, position-none, position-at, none-position}
 
 -- ---- when a version is seen
 

@@ -1,20 +1,20 @@
 -- Everything fits together after each call.
-use Rattle.std.proofs.Common.{◌≡◌, ◌≢◌, ℕ, zero, suc, ◌+◌, ◌-◌, ◌<◌, ◌≤◌, ◌⊎◌, inl, inr, Bool, true, false, max, cond, nat_lt, List, [], ◌∷◌, ◌++◌, length, take, drop, map, set, Option, Some, None, IfSome, is_some, slice_get, refl, sym, ap, subst, ◌∙◌, arith, length-append, length-set}
+use Rattle.std.proofs.Common.{◌≡◌, ◌≢◌, ℕ, suc, ◌+◌, ◌<◌, ◌≤◌, ◌⊎◌, inl, inr, Bool, true, false, max, cond, nat_lt, List, [], ◌∷◌, ◌++◌, length, take, drop, map, set, Option, Some, None, slice_get, refl, sym, ap, subst, ◌∙◌, arith, length-append, length-set}
 use Rattle.std.specs.List.{filter}
-use Rattle.std.proofs.lemmas.Bool.{cases_eq, cases_lt, cases_order, lt-ltb, le-ltb, false≢true}
+use Rattle.std.proofs.lemmas.Bool.{le-ltb, false≢true}
 use Rattle.std.proofs.lemmas.Option.{slice_get_within}
 use Rattle.std.proofs.lemmas.List.{length-map}
 use Rattle.row_versions.specs.declared.version.Version.{Version}
-use Rattle.row_versions.specs.History.{History, most_versions, rows_of, newest, begun, ended, given_up, changed, end_before, reopened, rolled_back}
+use Rattle.row_versions.specs.History.{most_versions, rows_of, newest, begun, ended, given_up, end_before, reopened, rolled_back}
 use Rattle.row_versions.specs.Order.{HasEndedBy, BeginsRise, AreOrdered, IsLatest, KeepsOrder}
-use Rattle.row_versions.specs.Inside.{AreOther, IsPlaceOfLast, IsLast, AreLinked, AreNewest, AreEnded, SplitsEnds, HasEnd, BelongTogether, Linked, noted}
-use Rattle.row_versions.proofs.Places.{get-front, get-last, get-push, get-set, get-set_same, get-set_other, get-within, get-map}
-use Rattle.row_versions.proofs.Seen.{all-ended, by-then, is_the_last, changed-is}
-use Rattle.row_versions.proofs.RolledBack.{below, keeps-all, keeps-none, kept-rolled}
-use Rattle.row_versions.proofs.EndPlaces.{ended-push, ended-same, fewer-ended, few-ended}
+use Rattle.row_versions.specs.Inside.{AreLinked, AreNewest, AreEnded, SplitsEnds, BelongTogether, Linked, noted}
+use Rattle.row_versions.proofs.Places.{get-push, get-set, get-map}
+use Rattle.row_versions.proofs.Seen.{all-ended, by-then, is_the_last}
+use Rattle.row_versions.proofs.RolledBack.{below, kept-rolled}
+use Rattle.row_versions.proofs.EndPlaces.{ended-push, ended-same, fewer-ended}
 use Rattle.row_versions.proofs.Inserted.{ended-insert}
 use Rattle.row_versions.proofs.LastPlaces.{linked-push}
-use Rattle.row_versions.proofs.Rows.{if-some, rows-are, rows-few, rows-set, rows-map, linked-rows, newest-rows, link-of, newest-push}
+use Rattle.row_versions.proofs.Rows.{rows-are, rows-set, linked-rows, newest-rows, link-of, newest-push}
 
 -- ---- a version is appended
 

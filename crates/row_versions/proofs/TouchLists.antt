@@ -1,14 +1,13 @@
 -- Gathering the commits at which versions begin and end.
-use Rattle.std.proofs.Common.{◌≡◌, ◌≢◌, ℕ, zero, suc, ◌+◌, ◌-◌, ◌<◌, ◌≤◌, ◌⊎◌, inl, inr, true, false, List, [], ◌∷◌, ◌++◌, length, Option, Some, None, slice_get, get_or, refl, sym, ap, subst, ◌∙◌, arith}
+use Rattle.std.proofs.Common.{◌≡◌, ℕ, ◌+◌, ◌<◌, ◌≤◌, ◌⊎◌, inl, inr, List, [], ◌∷◌, ◌++◌, length, Some, slice_get, refl, sym, ap, subst, ◌∙◌, arith}
 use Rattle.std.specs.List.{Contains}
 use Rattle.std.proofs.lemmas.Bool.{cases_eq, cases_lt, cases_order}
-use Rattle.std.proofs.lemmas.Option.{slice_get_within, slice_get-get_or, get_or_from_slice_get}
+use Rattle.std.proofs.lemmas.Option.{slice_get_within}
 use Rattle.std.proofs.lemmas.List.Elements.{Contains-push, Contains-append_left, Contains-push_cases}
 use Rattle.row_versions.specs.declared.version.Version.{Version}
 use Rattle.row_versions.specs.declared.touch.Touch.{Touch}
-use Rattle.row_versions.specs.Order.{AreOrdered, BeginsRise}
+use Rattle.row_versions.specs.Order.{BeginsRise}
 use Rattle.row_versions.specs.Inside.{HasEnd, AreEnded, SplitsEnds}
-use Rattle.row_versions.specs.Changes.{Touches}
 use Rattle.row_versions.specs.Touched.{IsTouch, AreTouches, SplitsBegins}
 
 pub record HasOnly (from to : ℕ) (xs : List Version) (ts : List Touch) : Type 0 where

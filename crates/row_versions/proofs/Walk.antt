@@ -1,12 +1,11 @@
 -- From a version of a row to the ones before it, down to the one that is seen.
-use Rattle.std.proofs.Common.{◌≡◌, ◌≢◌, ℕ, ◌+◌, ◌<◌, ◌≤◌, ◌⊎◌, inl, inr, Bool, true, false, ◌&&◌, ◌==◌, nat_le, List, length, Option, Some, None, option_map, slice_get, refl, sym, ap, ◌∙◌, arith}
+use Rattle.std.proofs.Common.{◌≡◌, ℕ, ◌<◌, ◌≤◌, ◌⊎◌, inl, inr, Bool, true, false, ◌&&◌, ◌==◌, nat_le, List, length, Some, None, option_map, slice_get, refl, sym, ap, ◌∙◌, arith}
 use Rattle.std.proofs.lemmas.Bool.{and_left, and_right, eqb-true, cases_order}
 use Rattle.std.proofs.lemmas.Option.{slice_get_within}
 use Rattle.row_versions.specs.declared.version.Version.{Version}
-use Rattle.row_versions.specs.declared.version_id.VersionId.{VersionId}
 use Rattle.row_versions.specs.History.{version_at, visible, is_seen, is_open}
 use Rattle.row_versions.specs.Order.{AreOrdered}
-use Rattle.row_versions.specs.Inside.{AreOther, IsPlaceOfLast, IsLast, StartsAt, AreLinked, AreNewest}
+use Rattle.row_versions.specs.Inside.{AreOther, IsPlaceOfLast, StartsAt}
 use Rattle.row_versions.proofs.Places.{position-none, position-at}
 use Rattle.row_versions.proofs.Seen.{early-unseen, ended-unseen, seen-so, by-then}
 

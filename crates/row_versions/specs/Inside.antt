@@ -1,7 +1,6 @@
 -- How versions are kept: each with a link to the one before it of its row, the last one of each row, and those that ended, in the order of their ends.
 use Rattle.std.specs.Prelude.{◌≡◌, ◌≢◌, ℕ, ◌+◌, ◌<◌, ◌≤◌, List, [], ◌∷◌, ◌++◌, length, Option, Some, None, is_some, slice_get, slice_set, take, ◌-◌, if◌then◌else◌, Bool, false, nat_lt}
 use Rattle.row_versions.specs.declared.version.Version.{Version}
-use Rattle.row_versions.specs.History.{History}
 use Rattle.row_versions.specs.Order.{KeepsOrder}
 
 -- Versions in the order in which they were written, each with the place of the one before it of its row.

@@ -3,4 +3,5 @@ pub mod Order
 pub mod Shows
 pub mod Changes
 pub mod Inside
+pub mod Stored
 pub mod Touched

@@ -1,5 +1,5 @@
 -- The commits at which versions begin and end, as they are gathered and put in order for the changes.
-use Rattle.std.specs.Prelude.{◌≡◌, ℕ, ◌<◌, ◌≤◌, ◌+◌, List, Some, slice_get, ◌⊎◌}
+use Rattle.std.specs.Prelude.{◌≡◌, ℕ, ◌<◌, ◌≤◌, List, Some, slice_get, ◌⊎◌}
 use Rattle.std.specs.List.{Contains}
 use Rattle.row_versions.specs.declared.version.Version.{Version}
 use Rattle.row_versions.specs.declared.touch.Touch.{Touch}

@@ -12,6 +12,8 @@ mod changing;
 mod ends;
 mod lasts;
 mod laws;
+mod marks;
+mod stored;
 mod touch;
 mod touching;
 mod version;
@@ -22,7 +24,9 @@ mod walking;
 
 pub use append_fault::AppendFault;
 pub use change::Change;
-pub use laws::{appends_show, empties_show, endings_show, latest_show, latest_stays, roll_backs_show};
+pub use laws::{
+    appends_show, empties_show, endings_show, latest_show, latest_stays, roll_backs_show,
+};
 pub use version::Version;
 pub use version_id::VersionId;
 pub use versions::{MOST_VERSIONS, Versions};

@@ -1,4 +1,4 @@
-use Rattle.std.proofs.Common.{◌-◌, refl, arith}
+use Rattle.std.proofs.Common.{◌-◌, arith}
 use Rattle.row_versions.proofs.Walk.{starts-before}
 use Rattle.row_versions.proofs.changing.change_at.Goals as goal
 

@@ -1,9 +1,7 @@
-use Rattle.std.proofs.Common.{◌≡◌, ◌<◌, ◌+◌, ◌++◌, ◌∷◌, [], Some, List, length, slice_get, get_or, refl, sym, ap, subst, ◌∙◌, arith}
+use Rattle.std.proofs.Common.{◌+◌, get_or, refl, sym, ap, subst, ◌∙◌, arith}
 use Rattle.std.proofs.lemmas.Option.{slice_get-get_or}
 use Rattle.row_versions.specs.declared.touch.Touch.{Touch}
-use Rattle.row_versions.specs.declared.change.Change.{Change}
-use Rattle.row_versions.specs.Touched.{AreAlike}
-use Rattle.row_versions.proofs.Merged.{IsMerged, merged-none, merged-skip, merged-push, merged-all, starts-here, touch-here}
+use Rattle.row_versions.proofs.Merged.{IsMerged, merged-skip, merged-push, merged-all, starts-here, touch-here}
 use Rattle.row_versions.proofs.changing.merged.Goals as goal
 use Rattle.row_versions.proofs.changing.merged.Goals.{then-not-is_followed+in_ok-push, else-not-is_followed}
 

@@ -1,8 +1,6 @@
-use Rattle.std.proofs.Common.{◌≡◌, ◌-◌, ◌++◌, ◌∷◌, [], Some, None, List, length, slice_get, set, map, sym, ap, subst, ◌∙◌}
-use Rattle.row_versions.specs.declared.version.Version.{Version}
-use Rattle.row_versions.specs.History.{reopened, endless}
+use Rattle.std.proofs.Common.{◌≡◌, ◌-◌, Some, None, length, slice_get, sym, ap, subst, ◌∙◌}
 use Rattle.row_versions.specs.Inside.{AreEnded, Linked}
-use Rattle.row_versions.proofs.Places.{has-front, no-last, same-last}
+use Rattle.row_versions.proofs.Places.{has-front, no-last}
 use Rattle.row_versions.proofs.Reopened.{all-early, none-early, all-reopened, reopened-ends, reopened-same}
 use Rattle.row_versions.proofs.ends.reopen.Goals as goal
 

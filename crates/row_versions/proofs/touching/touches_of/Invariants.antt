@@ -1,4 +1,4 @@
-use Rattle.std.proofs.Common.{◌≡◌, ℕ, ◌<◌, slice_get, Some, length}
+use Rattle.std.proofs.Common.{length}
 use Rattle.row_versions.proofs.TouchLists.{HasOnly, HasBegins, HasEnds}
 use Rattle.row_versions.proofs.touching.touches_of.Given as goal
 

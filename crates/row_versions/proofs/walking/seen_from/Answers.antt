@@ -1,4 +1,4 @@
-use Rattle.std.proofs.Common.{sym, ◌∙◌}
+use Rattle.std.proofs.Common.{sym}
 use Rattle.row_versions.proofs.Walk.{starts-within, is-shown, is-shut, is-first, steps-down}
 use Rattle.row_versions.proofs.walking.seen_from.Goals as goal
 

@@ -1,9 +1,9 @@
-use Rattle.std.proofs.Common.{◌≡◌, ◌≤◌, ◌+◌, None, length, slice_get, sym, ap, subst, ◌∙◌, arith}
+use Rattle.std.proofs.Common.{ℕ, ◌<◌, Option, IfSome, length, slice_get, sym, ap, subst, ◌∙◌, arith}
 use Rattle.row_versions.specs.History.{History, rows_of, newest}
 use Rattle.row_versions.specs.Order.{IsLatest}
-use Rattle.row_versions.specs.Inside.{Linked}
+use Rattle.row_versions.specs.Stored.{no_place}
 use Rattle.row_versions.proofs.EndPlaces.{few-ended}
-use Rattle.row_versions.proofs.Rows.{rows-are}
+use Rattle.row_versions.proofs.Rows.{rows-are, link-of, near-link}
 use Rattle.row_versions.proofs.Together.{appended-together}
 use Rattle.row_versions.proofs.versions.Versions.append.Goals as goal
 
@@ -12,6 +12,14 @@ overflow_sub-place c = omega (arith, c.self.invariant.ends.counted, few-ended c.
 
 pub note_last-requires-clause-within : goal.note_last-requires-clause-within
 note_last-requires-clause-within c = let h = c.in_ok-reserve-2.ensures.items in omega (arith, c.requires.row, ap length h, rows-are c.self.inside.list.versions c.self.inside.lasts.items c.self.invariant.newest, ap (λ (h : History). rows_of h.versions) c.self.view_is)
+
+pub push-requires : goal.push-requires
+push-requires c =
+    let link = c.last_of-before.ensures.exact ∙ ap (λ l. slice_get l c.args.row) (c.deref.ensures.value ∙ c.in_ok-reserve-2.ensures.items) in
+    record {
+      near = subst (λ (o : Option ℕ). IfSome o (λ place. place < no_place)) (sym link)
+          (near-link c.args.row c.self.inside.list.versions (slice_get c.self.inside.lasts.items c.args.row) (link-of c.args.row c.self.inside.list.versions c.self.inside.lasts.items c.self.invariant.newest) c.self.invariant.kept.few);
+    }
 
 pub invariant_of-self-2 : goal.invariant_of-self-2
 invariant_of-self-2 c =

@@ -1,4 +1,4 @@
-use Rattle.std.proofs.Common.{◌≡◌, Some, slice_get, sym, ap, subst, ◌∙◌, arith}
+use Rattle.std.proofs.Common.{◌≡◌, Some, slice_get, sym, ap, ◌∙◌}
 use Rattle.row_versions.specs.History.{History}
 use Rattle.row_versions.proofs.Rows.{if-some}
 use Rattle.row_versions.proofs.Together.{emptied-together}

@@ -1,4 +1,4 @@
-use Rattle.std.proofs.Common.{◌<◌, sym, ap, ◌∙◌, arith}
+use Rattle.std.proofs.Common.{◌<◌, ap, ◌∙◌, arith}
 use Rattle.row_versions.specs.History.{History, rows_of, newest}
 use Rattle.row_versions.proofs.Rows.{rows-are, last-read, newest-some, newest-none}
 use Rattle.row_versions.proofs.versions.Versions.newest.Goals as goal

@@ -1,4 +1,4 @@
-use Rattle.std.proofs.Common.{sym, ap, ◌∙◌, arith}
+use Rattle.std.proofs.Common.{ap, arith}
 use Rattle.row_versions.specs.History.{History, rows_of}
 use Rattle.row_versions.proofs.Rows.{rows-are, rows-few}
 use Rattle.row_versions.proofs.versions.Versions.rows.Goals as goal

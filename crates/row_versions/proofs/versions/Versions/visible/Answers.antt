@@ -1,4 +1,4 @@
-use Rattle.std.proofs.Common.{◌<◌, sym, ap, subst, ◌∙◌, arith}
+use Rattle.std.proofs.Common.{◌<◌, ap, ◌∙◌, arith}
 use Rattle.row_versions.specs.History.{History, rows_of, visible}
 use Rattle.row_versions.proofs.Rows.{rows-are, last-read}
 use Rattle.row_versions.proofs.Walk.{last-starts}
