@@ -9,6 +9,7 @@ use Rattle.phys_columns.specs.Walked.{values_in, all_of}
 use Rattle.phys_columns.specs.Cells.{Cells, cell_at, values_from}
 use Rattle.phys_columns.specs.Inside.{ArePages, page_at, column_value}
 use Rattle.phys_columns.proofs.Paged.{page_is}
+use Rattle.phys_columns.proofs.Valued.{at_place}
 
 abbrev left : Option (Bor Page) → ℕ → List (ℕ × Value)
 left page place = option_map_or (λ p. values_in p.now place (1024 - place)) page []
@@ -71,13 +72,6 @@ walk_none id cells from (suc n) none =
     let here : cell_at id from cells ≡ None = ap (λ v. cell_at id v cells) (omega arith) ∙ none 0 (omega arith) in
     ap (λ o. option_map_or (λ value. (from, value) ∷ values_from id (from + 1) n cells) o (values_from id (from + 1) n cells)) here
     ∙ walk_none id cells (from + 1) n (λ k below. ap (λ v. cell_at id v cells) (omega arith) ∙ none (k + 1) (omega arith))
-
--- A version by its page and its place there.
-pub at_place : (pages : List Page) (number k : ℕ) → k < 1024 → column_value pages (1024 * number + k) ≡ option_map_or (λ p. value_at p k) (page_at number pages) None
-at_place pages number k below =
-    let page : (1024 * number + k) / 1024 ≡ number = omega arith in
-    let place : (1024 * number + k) % 1024 ≡ k = omega arith in
-    ap (λ (n : ℕ). option_map_or (λ p. value_at p ((1024 * number + k) % 1024)) (page_at n pages) None) page ∙ ap (λ (m : ℕ). option_map_or (λ p. value_at p m) (page_at number pages) None) place
 
 -- What a walk gives of a column.
 pub walked : (pages : List Page) (id number : ℕ) (cells : Cells) (page : Option (Bor Page)) → ArePages 0 pages → option_map (λ p. p.now) page ≡ page_at number pages → ((v : ℕ) → cell_at id v cells ≡ column_value pages v) → all_of page ≡ values_from id (1024 * number) 1024 cells

@@ -61,3 +61,7 @@ pub record IsPage (page : Page) : Type 0 where
   pub whole : AreSlots page.slots
   pub storable : (place : ℕ) → IsStorable (value_in page.slots place)
   pub bare : (place : ℕ) → place < page_len → is_marked page.marks place ≡ false → text_in page.slots place ≡ []
+
+-- A value stands in the page.
+abbrev pub Holds : Page → Type 0
+Holds page = (place : ℕ) × (place < page_len) × (is_marked page.marks place ≡ true)
