@@ -1,5 +1,5 @@
 -- The map that columns are seen as, as one of them changes.
-use Rattle.std.proofs.Common.{◌≡◌, ◌≢◌, ◌<◌, ◌≤◌, ◌∙◌, ap, sym, refl, subst, arith, ℕ, zero, suc, ◌+◌, ◌/◌, ◌%◌, List, [], ◌∷◌, length, Bool, true, false, Option, Some, None, IfSome, Result, Ok, Err, OnErr, slice_get, slice_set, slice_index_or, ◌⊎◌, inl, inr}
+use Rattle.std.proofs.Common.{◌≡◌, ◌≢◌, ◌<◌, ◌≤◌, ◌∙◌, ap, sym, refl, subst, arith, ℕ, ◌/◌, List, [], length, Bool, true, false, Option, Some, None, IfSome, Result, Ok, Err, OnErr, slice_get, slice_set, slice_index_or, ◌⊎◌, inl, inr}
 use Rattle.std.specs.Option.{option_map_or}
 use Rattle.std.specs.FinMap as map
 use Rattle.std.proofs.lemmas.Option.{slice_get_read, slice_get_past, slice_get_within}
@@ -9,7 +9,7 @@ use Rattle.doc_values.specs.declared.value.Value.{Value}
 use Rattle.phys_columns.specs.declared.column.Column.{Column}
 use Rattle.phys_columns.specs.declared.page.Page.{Page}
 use Rattle.phys_columns.specs.declared.spare.Spare.{Spare}
-use Rattle.phys_columns.specs.Cells.{Cells, cell_at, with_cell, without_cell}
+use Rattle.phys_columns.specs.Cells.{cell_at, with_cell, without_cell}
 use Rattle.phys_columns.specs.Pages.{Holds}
 use Rattle.phys_columns.specs.Seen.{cells_of, IsWithin}
 use Rattle.phys_columns.specs.Inside.{ArePages, HasRoom, IsOfKind, page_at, pages_of, IsRoom, column_value, value_of, cells_in, all_versions}
@@ -22,13 +22,16 @@ ArePaged columns = (id : ℕ) → ArePages 0 (pages_of id columns)
 
 -- Values stand in the columns that there are, and in versions below the bound.
 pub within : (columns : List Column) → ArePaged columns → IsWithin (value_of columns) (length columns) all_versions
-within columns paged id version value is = (elim (slice_get columns id) as (λ o. slice_get columns id ≡ o → column_value (option_map_or (λ column. column.pages.items) o []) version ≡ Some value → id < length columns) [
-  | None ↦ λ e h. cc
-  | Some column ↦ λ e h. slice_get_within columns id column e
-] refl is, elim (page_at (version / 1024) (pages_of id columns)) as (λ o. page_at (version / 1024) (pages_of id columns) ≡ o → value_on o version ≡ Some value → version < all_versions) [
-  | None ↦ λ e h. cc
-  | Some page ↦ λ e h. let facts = page_is (version / 1024) 0 (pages_of id columns) (paged id) page e in omega (arith, facts.1)
-] refl is)
+within columns paged id version value is = (
+  elim (slice_get columns id) as (λ o. slice_get columns id ≡ o → column_value (option_map_or (λ column. column.pages.items) o []) version ≡ Some value → id < length columns) [
+    | None ↦ λ e h. cc
+    | Some column ↦ λ e h. slice_get_within columns id column e
+  ] refl is,
+  elim (page_at (version / 1024) (pages_of id columns)) as (λ o. page_at (version / 1024) (pages_of id columns) ≡ o → value_on o version ≡ Some value → version < all_versions) [
+    | None ↦ λ e h. cc
+    | Some page ↦ λ e h. let facts = page_is (version / 1024) 0 (pages_of id columns) (paged id) page e in omega (arith, facts.1)
+  ] refl is,
+)
 
 -- What stands in a cell.
 pub cell_is : (columns : List Column) → ArePaged columns → (id version : ℕ) → cell_at id version (cells_in columns) ≡ value_of columns id version
@@ -184,11 +187,11 @@ held_same columns after spare same held id n = subst (λ xs. IfSome (page_at n x
 pub set_held : (columns : List Column) (id : ℕ) (old new : Column) (before after : Option Spare) (n0 : ℕ) → id < length columns → old ≡ slice_index_or columns id old → AreHeld columns before → ((n : ℕ) → n ≢ n0 → page_at n new.pages.items ≡ page_at n old.pages.items) → IfSome (page_at n0 new.pages.items) (λ page. Holds page ⊎ IsRoom id n0 after) → ((i n : ℕ) → (i ≡ id → n ≡ n0 → ⊥) → IsRoom i n before → IsRoom i n after) → AreHeld (slice_set columns id new) after
 set_held columns id old new before after n0 inside is held others own moved i n = elim (eqb_tells i id) [
   | inl same ↦ elim (eqb_tells n n0) [
-      | inl here ↦ subst (λ k. IfSome (page_at n (pages_of k (slice_set columns id new))) (λ page. Holds page ⊎ IsRoom k n after)) (sym same.1) (subst (λ m. IfSome (page_at m (pages_of id (slice_set columns id new))) (λ page. Holds page ⊎ IsRoom id m after)) (sym here.1) (subst (λ xs. IfSome (page_at n0 xs) (λ page. Holds page ⊎ IsRoom id n0 after)) (sym (column_after columns id old new inside is)) own))
-      | inr differs ↦
-          let kept : IfSome (page_at n new.pages.items) (λ page. Holds page ⊎ IsRoom id n before) = subst (λ o. IfSome o (λ page. Holds page ⊎ IsRoom id n before)) (sym (others n differs.1)) (subst (λ xs. IfSome (page_at n xs) (λ page. Holds page ⊎ IsRoom id n before)) (column_before columns id old inside is) (held id n)) in
-          subst (λ k. IfSome (page_at n (pages_of k (slice_set columns id new))) (λ page. Holds page ⊎ IsRoom k n after)) (sym same.1) (subst (λ xs. IfSome (page_at n xs) (λ page. Holds page ⊎ IsRoom id n after)) (sym (column_after columns id old new inside is)) (weaker (page_at n new.pages.items) _ _ (moved id n (λ e h. differs.1 h)) kept))
-    ]
+    | inl here ↦ subst (λ k. IfSome (page_at n (pages_of k (slice_set columns id new))) (λ page. Holds page ⊎ IsRoom k n after)) (sym same.1) (subst (λ m. IfSome (page_at m (pages_of id (slice_set columns id new))) (λ page. Holds page ⊎ IsRoom id m after)) (sym here.1) (subst (λ xs. IfSome (page_at n0 xs) (λ page. Holds page ⊎ IsRoom id n0 after)) (sym (column_after columns id old new inside is)) own))
+    | inr differs ↦
+        let kept : IfSome (page_at n new.pages.items) (λ page. Holds page ⊎ IsRoom id n before) = subst (λ o. IfSome o (λ page. Holds page ⊎ IsRoom id n before)) (sym (others n differs.1)) (subst (λ xs. IfSome (page_at n xs) (λ page. Holds page ⊎ IsRoom id n before)) (column_before columns id old inside is) (held id n)) in
+        subst (λ k. IfSome (page_at n (pages_of k (slice_set columns id new))) (λ page. Holds page ⊎ IsRoom k n after)) (sym same.1) (subst (λ xs. IfSome (page_at n xs) (λ page. Holds page ⊎ IsRoom id n after)) (sym (column_after columns id old new inside is)) (weaker (page_at n new.pages.items) _ _ (moved id n (λ e h. differs.1 h)) kept))
+  ]
   | inr differs ↦ subst (λ xs. IfSome (page_at n xs) (λ page. Holds page ⊎ IsRoom i n after)) (sym (column_apart columns id new i differs.1)) (weaker (page_at n (pages_of i columns)) _ _ (moved i n (λ e h. differs.1 e)) (held i n))
 ]
 

@@ -1,5 +1,5 @@
 -- The values of a column, as its pages change.
-use Rattle.std.proofs.Common.{◌≡◌, ◌≢◌, ◌<◌, ◌≤◌, ◌∙◌, ap, sym, refl, subst, arith, ℕ, zero, suc, ◌+◌, ◌*◌, ◌/◌, ◌%◌, List, [], ◌∷◌, ◌++◌, length, Bool, true, false, Option, Some, None, IfSome, slice_get, slice_set, ◌⊎◌, inl, inr, if◌then◌else◌, slice_index_or}
+use Rattle.std.proofs.Common.{◌≡◌, ◌≢◌, ◌<◌, ◌≤◌, ◌∙◌, ap, sym, refl, subst, arith, ℕ, ◌+◌, ◌*◌, ◌/◌, ◌%◌, List, length, true, false, Option, Some, None, IfSome, slice_get, slice_set, inl, inr, if◌then◌else◌, slice_index_or}
 use Rattle.std.specs.List.{insert, remove}
 use Rattle.std.specs.Option.{option_map_or}
 use Rattle.std.proofs.lemmas.Option.{slice_get_read, slice_get_cases}
@@ -11,7 +11,7 @@ use Rattle.phys_columns.specs.declared.page.Page.{Page}
 use Rattle.phys_columns.specs.declared.slots.Slots as slots
 use Rattle.phys_columns.specs.Pages.{IsPage, is_marked, kind_in, value_in, value_at, Holds}
 use Rattle.phys_columns.specs.Inside.{ArePages, FitsAt, IsOfKind, page_at, column_value, most_pages}
-use Rattle.phys_columns.proofs.Paged.{page_is, found, set_pages, set_other, set_here, insert_pages, insert_other, insert_here, remove_pages, remove_other, remove_here}
+use Rattle.phys_columns.proofs.Paged.{page_is, set_pages, set_other, set_here, insert_pages, insert_other, insert_here, remove_pages, remove_other, remove_here}
 
 abbrev pub value_on : Option Page → ℕ → Option Value
 value_on page version = option_map_or (λ p. value_at p (version % 1024)) page None

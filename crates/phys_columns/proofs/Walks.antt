@@ -1,5 +1,5 @@
 -- What a walk has left, as it goes on from place to place.
-use Rattle.std.proofs.Common.{◌≡◌, ◌≢◌, ◌<◌, ◌≤◌, ◌∙◌, ap, sym, refl, subst, arith, ℕ, zero, suc, ◌+◌, ◌-◌, ◌*◌, ◌/◌, ◌%◌, List, [], ◌∷◌, Bool, true, false, Option, Some, None, Bor, if◌then◌else◌, ◌⊎◌, inl, inr}
+use Rattle.std.proofs.Common.{◌≡◌, ◌<◌, ◌≤◌, ◌∙◌, ap, sym, refl, arith, ℕ, zero, suc, ◌+◌, ◌-◌, ◌*◌, List, [], ◌∷◌, true, false, Option, Some, None, Bor, if◌then◌else◌, inl, inr}
 use Rattle.std.specs.Option.{option_map_or, option_map}
 use Rattle.std.proofs.lemmas.Bool.Decides.{eqb_tells}
 use Rattle.doc_values.specs.declared.value.Value.{Value}
@@ -27,6 +27,7 @@ skipped page place (suc n) r from upto none = elim (eqb_tells place r) [
   | inl same ↦ ap (λ (k : ℕ). values_in page k (suc n)) same.1 ∙ ap (values_in page r) (omega (arith, same.1))
   | inr differs ↦ passed page place n (none place (omega arith) (omega (arith, differs.1))) ∙ skipped page (place + 1) n r (omega (arith, differs.1)) (omega arith) (λ k low high. none k (omega arith) high) ∙ ap (values_in page r) (omega arith)
 ]
+
 given : (page : Page) (place n : ℕ) → is_marked page.marks place ≡ true → values_in page place (suc n) ≡ (1024 * page.number + place, value_in page.slots place) ∷ values_in page (place + 1) n
 unfolding values_in
 given page place n is = ap (λ b. option_map_or (λ value. (1024 * page.number + place, value) ∷ values_in page (place + 1) n) (if b then Some (value_in page.slots place) else None) (values_in page (place + 1) n)) is

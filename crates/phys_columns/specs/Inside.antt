@@ -1,5 +1,5 @@
 -- How columns are kept: for each attribute its pages, in the order of their numbers.
-use Rattle.std.specs.Prelude.{◌≡◌, ℕ, ◌+◌, ◌*◌, ◌<◌, ◌≤◌, ◌/◌, ◌%◌, ◌==◌, List, [], ◌∷◌, length, Option, Some, None, if◌then◌else◌, slice_get, ⊤, ◌⊎◌, IfSome}
+use Rattle.std.specs.Prelude.{◌≡◌, ℕ, ◌+◌, ◌<◌, ◌≤◌, ◌/◌, ◌%◌, ◌==◌, List, [], ◌∷◌, length, Option, Some, None, if◌then◌else◌, slice_get, ⊤, ◌⊎◌, IfSome}
 use Rattle.std.specs.Option.{option_map_or}
 use Rattle.doc_values.specs.declared.kind.Kind as kind
 use Rattle.doc_values.specs.declared.value.Value.{Value}

@@ -1,5 +1,5 @@
 -- What a page holds: marks, a bit a version, and slots, in which the values of one kind stand.
-use Rattle.std.specs.Prelude.{◌≡◌, ℕ, ℤ, pos, ◌<◌, ◌≤◌, ◌/◌, ◌%◌, ◌==◌, List, [], length, Bool, true, false, Option, Some, None, if◌then◌else◌, slice_index, slice_index_or}
+use Rattle.std.specs.Prelude.{◌≡◌, ℕ, pos, ◌<◌, ◌/◌, ◌%◌, List, [], length, Bool, true, false, Option, Some, None, if◌then◌else◌, slice_index_or}
 use Rattle.doc_values.specs.declared.kind.Kind as kind
 use Rattle.doc_values.specs.declared.value.Value as value
 use Rattle.doc_values.specs.Value.{IsStorable}

@@ -78,7 +78,12 @@ impl Column {
     }
 
     /// Makes the page of a version, for values of a kind, where it is not there.
-    pub(crate) fn make_room(&mut self, alloc: Global, version: u32, kind: Kind) -> Result<(), AllocError>
+    pub(crate) fn make_room(
+        &mut self,
+        alloc: Global,
+        version: u32,
+        kind: Kind,
+    ) -> Result<(), AllocError>
         requires pages { ArePages 0 self.old.pages.items }
         requires held { (n : ℕ) → IfSome (page_at n self.old.pages.items) Holds }
         requires alike { (w : ℕ) (v : ValueOf) → column_value self.old.pages.items w ≡ Some v → kind_of v ≡ kind }

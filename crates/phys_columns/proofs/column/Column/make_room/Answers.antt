@@ -1,4 +1,4 @@
-use Rattle.std.proofs.Common.{◌∙◌, sym, arith, refl}
+use Rattle.std.proofs.Common.{arith}
 use Rattle.phys_columns.proofs.Valued.{fits_there, found_kind, inserted_pages, inserted_kept, inserted_room, inserted_others}
 use Rattle.phys_columns.proofs.column.Column.make_room.Goals as goal
 

@@ -1,5 +1,4 @@
-use Rattle.std.proofs.Common.{◌≡◌, ◌∙◌, ◌/◌, ap, refl, sym, arith, length, ◌<◌, ◌≤◌, Bool, true, false}
-use Rattle.phys_columns.specs.Inside.{IsRoom}
+use Rattle.std.proofs.Common.{◌∙◌, ◌/◌, ap, refl, sym, arith, length, ◌<◌, ◌≤◌}
 use Rattle.phys_columns.proofs.Held.{paged_there, nothing_taken, read_some, read_none, set_paged, set_taken, set_room, clear_room, set_held, clear_held}
 use Rattle.phys_columns.proofs.columns.Columns.clear_cell.Goals as goal
 

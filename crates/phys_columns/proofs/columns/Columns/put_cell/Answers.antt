@@ -1,7 +1,5 @@
-use Rattle.std.proofs.Common.{◌≡◌, ◌∙◌, ap, refl, sym, subst, arith, length, ◌<◌, ◌/◌, Option, Some, None}
+use Rattle.std.proofs.Common.{◌∙◌, ap, length, ◌<◌, ◌/◌, None}
 use Rattle.doc_values.specs.Value.{kind_of}
-use Rattle.phys_columns.specs.declared.spare.Spare.{Spare}
-use Rattle.phys_columns.specs.Inside.{HasRoom}
 use Rattle.phys_columns.proofs.Held.{room_within, room_there, set_paged, set_put, set_held, by_value, other_room}
 use Rattle.phys_columns.proofs.columns.Columns.put_cell.Goals as goal
 

@@ -1,4 +1,4 @@
-use Rattle.std.proofs.Common.{◌≡◌, ◌∙◌, ◌/◌, ap, refl, sym, length, ◌<◌, None}
+use Rattle.std.proofs.Common.{◌/◌, ap, length, ◌<◌, None}
 use Rattle.phys_columns.proofs.Held.{room_within, set_paged, set_same, set_held, by_value, other_room}
 use Rattle.phys_columns.proofs.columns.Columns.release.Goals as goal
 

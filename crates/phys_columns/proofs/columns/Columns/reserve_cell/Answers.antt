@@ -1,4 +1,4 @@
-use Rattle.std.proofs.Common.{◌≡◌, ◌∙◌, ◌/◌, ap, refl, sym, subst, arith, length, ◌<◌, None, Some, OnErr, OnOk, IfSome, ◌⊎◌}
+use Rattle.std.proofs.Common.{◌≡◌, ◌∙◌, ◌/◌, ap, refl, sym, subst, arith, length, ◌<◌, None, Some, IfSome, ◌⊎◌}
 use Rattle.phys_columns.specs.Cells.{cell_at}
 use Rattle.phys_columns.specs.Pages.{Holds}
 use Rattle.phys_columns.specs.Inside.{cells_in, HasRoom, IsRoom, page_at}
