@@ -41,7 +41,7 @@ fn run(rt: &HostRuntime, columns: &mut Columns, line: &str) -> Result<String>
         "random" => compare(rt.alloc(), first.parse()?, second.parse()?),
         "fill" => fill(rt.alloc(), first.parse()?),
         "touch" => touch(rt.alloc(), first.parse()?),
-        "time" => time(rt),
+        "time" => time(rt, first.parse()?),
         _ => read(rt, columns, name, first.parse()?, [second, third, fourth]),
     }
 }

@@ -1,3 +1,4 @@
+ghost use Rattle.std.specs.Prelude.{◌<◌};
 ghost use Rattle.columns_bench.specs.Typed.{AreTyped};
 
 use crate::random::stirred;
@@ -10,7 +11,8 @@ use std::time::Instant;
 
 const ROUNDS: u32 = 5;
 
-const VERSIONS: u32 = 1_048_576;
+// How many readings a round makes, of all values together.
+const READINGS: u32 = 4_194_304;
 
 /// Puts so many numbers in the first versions of one attribute, and lets them go.
 pub(crate) fn fill(alloc: Global, count: u32) -> Result<String> {
@@ -48,20 +50,21 @@ enum Reading {
     Filter,
 }
 
-/// The times of a put, of a look-up in order and out of order, of a walk, and of a filter, in picoseconds a call, a
-/// value or a version; those of readings are the best of five.
-pub(crate) fn time(rt: &HostRuntime) -> Result<String> {
+/// The times of a put, of a look-up in order and out of order, of a walk and of a filter, over so many pages that are
+/// full of numbers, in picoseconds a value; those of readings are the best of five rounds.
+pub(crate) fn time(rt: &HostRuntime, pages: u32) -> Result<String> {
+    let pages = pages.clamp(1, READINGS / 1_024);
     let alloc = rt.alloc();
     let start = Instant::now(rt)?;
-    let columns = filled(alloc, VERSIONS)?;
+    let columns = filled(alloc, 1_024 * pages)?;
     let putting = start.elapsed(rt)?.as_nanos();
-    let in_order = best(rt, &columns, Reading::InOrder)?;
-    let out_of_order = best(rt, &columns, Reading::OutOfOrder)?;
-    let walk = best(rt, &columns, Reading::Walk)?;
-    let filter = best(rt, &columns, Reading::Filter)?;
+    let in_order = best(rt, &columns, pages, Reading::InOrder)?;
+    let out_of_order = best(rt, &columns, pages, Reading::OutOfOrder)?;
+    let walk = best(rt, &columns, pages, Reading::Walk)?;
+    let filter = best(rt, &columns, pages, Reading::Filter)?;
     Ok(format!(in alloc;
         "put {} in order {} out of order {} walk {} filter {}",
-        each(putting),
+        putting.saturating_mul(1_000) / u128::from(1_024 * pages),
         each(in_order),
         each(out_of_order),
         each(walk),
@@ -69,27 +72,31 @@ pub(crate) fn time(rt: &HostRuntime) -> Result<String> {
     )?)
 }
 
-// The picoseconds for each of the versions.
+// The picoseconds of each of the readings of a round.
 fn each(nanos: u128) -> u128 {
-    nanos.saturating_mul(1_000) / u128::from(VERSIONS)
+    nanos.saturating_mul(1_000) / u128::from(READINGS)
 }
 
-// The nanoseconds of the fastest of some readings.
-fn best(rt: &HostRuntime, columns: &Columns, reading: Reading) -> Result<u128> {
+// The nanoseconds of the fastest of some rounds.
+fn best(rt: &HostRuntime, columns: &Columns, pages: u32, reading: Reading) -> Result<u128>
+    requires { 0 < pages }
+{
     let mut best = u128::MAX;
     for _ in 0..ROUNDS {
-        best = best.min(time_once(rt, columns, reading)?);
+        best = best.min(time_once(rt, columns, pages, reading)?);
     }
     Ok(best)
 }
 
-fn time_once(rt: &HostRuntime, columns: &Columns, reading: Reading) -> Result<u128> {
+fn time_once(rt: &HostRuntime, columns: &Columns, pages: u32, reading: Reading) -> Result<u128>
+    requires { 0 < pages }
+{
     let start = Instant::now(rt)?;
     let sum = match reading {
-        Reading::InOrder => look_in_order(columns),
-        Reading::OutOfOrder => look_up(columns),
-        Reading::Walk => walk(columns),
-        Reading::Filter => filter(columns),
+        Reading::InOrder => look_in_order(columns, pages),
+        Reading::OutOfOrder => look_out_of_order(columns, pages),
+        Reading::Walk => walk(columns, pages),
+        Reading::Filter => filter(columns, pages),
     };
     let nanos = start.elapsed(rt)?.as_nanos();
     if sum == 0 {
@@ -106,28 +113,39 @@ fn number_at(columns: &Columns, version: u32) -> i128 {
     }
 }
 
-fn look_in_order(columns: &Columns) -> i128 {
+fn look_in_order(columns: &Columns, pages: u32) -> i128
+    requires { 0 < pages }
+{
+    let versions = pages.saturating_mul(1_024);
     let mut sum = 0i128;
-    for version in 0..VERSIONS {
+    let mut version = 0;
+    for _ in 0..READINGS {
         sum = sum.wrapping_add(number_at(columns, version));
+        version = if version >= versions - 1 { 0 } else { version + 1 };
     }
     sum
 }
 
-fn look_up(columns: &Columns) -> i128 {
+fn look_out_of_order(columns: &Columns, pages: u32) -> i128
+    requires { 0 < pages }
+{
+    let versions = u64::from(pages.saturating_mul(1_024));
     let mut state = 1;
     let mut sum = 0i128;
-    for _ in 0..VERSIONS {
+    for _ in 0..READINGS {
         state = stirred(state);
-        sum = sum.wrapping_add(number_at(columns, state >> 12));
+        let version = (u64::from(state) * versions) >> 32;
+        sum = sum.wrapping_add(number_at(columns, version as u32));
     }
     sum
 }
 
-fn walk(columns: &Columns) -> i128 {
+fn walk(columns: &Columns, pages: u32) -> i128
+    requires { 0 < pages }
+{
     let mut sum = 0i128;
-    for page in 0..VERSIONS / 1_024 {
-        sum = sum.wrapping_add(walk_page(columns, page));
+    for turn in 0..READINGS / 1_024 {
+        sum = sum.wrapping_add(walk_page(columns, turn % pages));
     }
     sum
 }
@@ -142,14 +160,16 @@ fn walk_page(columns: &Columns, page: u32) -> i128 {
     sum
 }
 
-fn filter(columns: &Columns) -> i128 {
+fn filter(columns: &Columns, pages: u32) -> i128
+    requires { 0 < pages }
+{
+    let test = CompareInt {
+        op: CompareOp::Lt,
+        with: 1_000_000_000,
+    };
     let mut sum = 0i128;
-    for page in 0..VERSIONS / 1_024 {
-        let test = CompareInt {
-            op: CompareOp::Lt,
-            with: 1_000_000_000,
-        };
-        let mask = columns.filter_page(AttrId(0), page, test);
+    for turn in 0..READINGS / 1_024 {
+        let mask = columns.filter_page(AttrId(0), turn % pages, test);
         for word in mask.words {
             sum = sum.wrapping_add(i128::from(word.count_ones()));
         }

@@ -1,10 +1,9 @@
 -- Bits of two masks together, and of an empty one.
-use Rattle.std.proofs.Common.{◌≡◌, ◌≢◌, ◌<◌, ◌≤◌, ◌∙◌, ap, sym, refl, arith, ℕ, zero, suc, ◌+◌, ◌*◌, ◌/◌, ◌%◌, ◌==◌, ◌&&◌, min, List, length, Bool, true, false, slice_index, slice_set, bit_and, replicate, ◌⊎◌, inl, inr}
+use Rattle.std.proofs.Common.{◌≡◌, ◌≢◌, ◌<◌, ◌∙◌, ap, refl, arith, ℕ, zero, suc, ◌+◌, ◌*◌, ◌/◌, ◌%◌, ◌==◌, ◌&&◌, min, List, length, Bool, false, slice_index, slice_set, bit_and, replicate}
 use Rattle.std.specs.Int.{bit_at}
-use Rattle.std.proofs.lemmas.List.{get_or-set_same, get_or-set_other, length-set}
+use Rattle.std.proofs.lemmas.List.{get_or-set_same, get_or-set_other}
 use Rattle.std.proofs.lemmas.Simd.{get_or-replicate}
 use Rattle.std.proofs.lemmas.Nat.Bits.{bit_at_and, bit_at-lt, bit_at-zero}
-use Rattle.std.proofs.lemmas.Bool.Decides.{eqb_tells}
 use Rattle.phys_columns.specs.declared.marks.Marks.{Marks}
 use Rattle.phys_columns.specs.Filtered.{is_bit}
 use Rattle.phys_columns.specs.Pages.{is_marked}

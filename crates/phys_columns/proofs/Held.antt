@@ -1,5 +1,5 @@
 -- The map that columns are seen as, as one of them changes.
-use Rattle.std.proofs.Common.{◌≡◌, ◌≢◌, ◌<◌, ◌≤◌, ◌∙◌, ap, sym, refl, subst, arith, ℕ, zero, suc, ◌+◌, ◌/◌, ◌%◌, List, [], ◌∷◌, length, Option, Some, None, IfSome, Result, Ok, Err, OnErr, slice_get, slice_set, slice_index_or, ◌⊎◌, inl, inr}
+use Rattle.std.proofs.Common.{◌≡◌, ◌≢◌, ◌<◌, ◌≤◌, ◌∙◌, ap, sym, refl, subst, arith, ℕ, ◌/◌, List, [], length, Bool, true, false, Option, Some, None, IfSome, Result, Ok, Err, OnErr, slice_get, slice_set, slice_index_or, ◌⊎◌, inl, inr}
 use Rattle.std.specs.Option.{option_map_or}
 use Rattle.std.specs.FinMap as map
 use Rattle.std.proofs.lemmas.Option.{slice_get_read, slice_get_past, slice_get_within}
@@ -9,9 +9,10 @@ use Rattle.doc_values.specs.declared.value.Value.{Value}
 use Rattle.phys_columns.specs.declared.column.Column.{Column}
 use Rattle.phys_columns.specs.declared.page.Page.{Page}
 use Rattle.phys_columns.specs.declared.spare.Spare.{Spare}
-use Rattle.phys_columns.specs.Cells.{Cells, cell_at, with_cell, without_cell}
+use Rattle.phys_columns.specs.Cells.{cell_at, with_cell, without_cell}
+use Rattle.phys_columns.specs.Pages.{Holds}
 use Rattle.phys_columns.specs.Seen.{cells_of, IsWithin}
-use Rattle.phys_columns.specs.Inside.{ArePages, HasRoom, IsOfKind, page_at, pages_of, column_value, value_of, cells_in, all_versions}
+use Rattle.phys_columns.specs.Inside.{ArePages, HasRoom, IsOfKind, page_at, pages_of, IsRoom, column_value, value_of, cells_in, all_versions}
 use Rattle.phys_columns.proofs.Paged.{page_is, set_at, set_apart}
 use Rattle.phys_columns.proofs.Valued.{value_on}
 use Rattle.phys_columns.proofs.Mapped.{get_cell, same_cells, put_cells, take_cells}
@@ -21,13 +22,16 @@ ArePaged columns = (id : ℕ) → ArePages 0 (pages_of id columns)
 
 -- Values stand in the columns that there are, and in versions below the bound.
 pub within : (columns : List Column) → ArePaged columns → IsWithin (value_of columns) (length columns) all_versions
-within columns paged id version value is = (elim (slice_get columns id) as (λ o. slice_get columns id ≡ o → column_value (option_map_or (λ column. column.pages.items) o []) version ≡ Some value → id < length columns) [
-  | None ↦ λ e h. cc
-  | Some column ↦ λ e h. slice_get_within columns id column e
-] refl is, elim (page_at (version / 1024) (pages_of id columns)) as (λ o. page_at (version / 1024) (pages_of id columns) ≡ o → value_on o version ≡ Some value → version < all_versions) [
-  | None ↦ λ e h. cc
-  | Some page ↦ λ e h. let facts = page_is (version / 1024) 0 (pages_of id columns) (paged id) page e in omega (arith, facts.1)
-] refl is)
+within columns paged id version value is = (
+  elim (slice_get columns id) as (λ o. slice_get columns id ≡ o → column_value (option_map_or (λ column. column.pages.items) o []) version ≡ Some value → id < length columns) [
+    | None ↦ λ e h. cc
+    | Some column ↦ λ e h. slice_get_within columns id column e
+  ] refl is,
+  elim (page_at (version / 1024) (pages_of id columns)) as (λ o. page_at (version / 1024) (pages_of id columns) ≡ o → value_on o version ≡ Some value → version < all_versions) [
+    | None ↦ λ e h. cc
+    | Some page ↦ λ e h. let facts = page_is (version / 1024) 0 (pages_of id columns) (paged id) page e in omega (arith, facts.1)
+  ] refl is,
+)
 
 -- What stands in a cell.
 pub cell_is : (columns : List Column) → ArePaged columns → (id version : ℕ) → cell_at id version (cells_in columns) ≡ value_of columns id version
@@ -68,18 +72,24 @@ pub nothing_taken : (columns : List Column) (id version : ℕ) → ArePaged colu
 unfolding cells_in
 nothing_taken columns id version paged past = take_cells (value_of columns) (value_of columns) (length columns) (length columns) all_versions id version (within columns paged) (within columns paged) (ap (λ o. column_value (option_map_or (λ (c : Column). c.pages.items) o []) version) (slice_get_past columns id past)) (λ i w apart. refl)
 
-module _ (columns : List Column) (id : ℕ) (old new : Column) (inside : id < length columns) (is : old ≡ slice_index_or columns id old) (paged : ArePaged columns) (pages : ArePages 0 new.pages.items) where
-  there : slice_get columns id ≡ Some old
-  there = slice_get_read columns (length columns) id old refl inside is
+pub column_before : (columns : List Column) (id : ℕ) (old : Column) → id < length columns → old ≡ slice_index_or columns id old → pages_of id columns ≡ old.pages.items
+column_before columns id old inside is = ap (λ o. option_map_or (λ (column : Column). column.pages.items) o []) (slice_get_read columns (length columns) id old refl inside is)
 
-  pub pages_before : pages_of id columns ≡ old.pages.items
-  pages_before = ap (λ o. option_map_or (λ (column : Column). column.pages.items) o []) there
+column_after : (columns : List Column) (id : ℕ) (old new : Column) → id < length columns → old ≡ slice_index_or columns id old → pages_of id (slice_set columns id new) ≡ new.pages.items
+column_after columns id old new inside is = ap (λ o. option_map_or (λ (column : Column). column.pages.items) o []) (set_at columns id old new (slice_get_read columns (length columns) id old refl inside is))
+
+column_apart : (columns : List Column) (id : ℕ) (new : Column) (i : ℕ) → i ≢ id → pages_of i (slice_set columns id new) ≡ pages_of i columns
+column_apart columns id new i apart = ap (λ o. option_map_or (λ (column : Column). column.pages.items) o []) (set_apart columns id i new apart)
+
+module _ (columns : List Column) (id : ℕ) (old new : Column) (inside : id < length columns) (is : old ≡ slice_index_or columns id old) (paged : ArePaged columns) (pages : ArePages 0 new.pages.items) where
+  pages_before : pages_of id columns ≡ old.pages.items
+  pages_before = column_before columns id old inside is
 
   pages_after : pages_of id (slice_set columns id new) ≡ new.pages.items
-  pages_after = ap (λ o. option_map_or (λ (column : Column). column.pages.items) o []) (set_at columns id old new there)
+  pages_after = column_after columns id old new inside is
 
   pages_apart : (i : ℕ) → i ≢ id → pages_of i (slice_set columns id new) ≡ pages_of i columns
-  pages_apart i apart = ap (λ o. option_map_or (λ (column : Column). column.pages.items) o []) (set_apart columns id i new apart)
+  pages_apart i apart = column_apart columns id new i apart
 
   -- One of the columns is changed.
   pub set_paged : ArePaged (slice_set columns id new)
@@ -131,14 +141,59 @@ module _ (columns : List Column) (id : ℕ) (old new : Column) (inside : id < le
   pub new_room : (s : Spare) → s.id.0 ≡ id → IsOfKind s.kind (page_at (s.version / 1024) new.pages.items) → HasRoom (slice_set columns id new) (Some s)
   new_room s same room = subst (λ k. IsOfKind s.kind (page_at (s.version / 1024) (pages_of k (slice_set columns id new)))) (sym same) (subst (λ xs. IsOfKind s.kind (page_at (s.version / 1024) xs)) (sym pages_after) room)
 
--- The room stays where no page goes but one that it is not in, and where every page keeps its kind.
-pub free_room : (old new : List Page) (id version : ℕ) (spare : Option Spare) → IfSome spare (λ s. s.id.0 ≡ id → s.version / 1024 ≢ version / 1024) → ((n : ℕ) → n ≢ version / 1024 → page_at n new ≡ page_at n old) → IfSome spare (λ s. s.id.0 ≡ id → IsOfKind s.kind (page_at (s.version / 1024) old) → IsOfKind s.kind (page_at (s.version / 1024) new))
-free_room old new id version None free kept = tt
-free_room old new id version (Some s) free kept = λ same room. subst (IsOfKind s.kind) (sym (kept (s.version / 1024) (free same))) room
+-- The room stays where a cell is cleared, since its page is kept.
+pub clear_room : (old new : List Page) (id version : ℕ) (keep : Bool) (spare : Option Spare) → (keep ≡ true → (k : kind.Kind) → IsOfKind k (page_at (version / 1024) old) → IsOfKind k (page_at (version / 1024) new)) → ((n : ℕ) → n ≢ version / 1024 → page_at n new ≡ page_at n old) → (keep ≡ false → IfSome spare (λ s. s.id.0 ≡ id → s.version / 1024 ≢ version / 1024)) → IfSome spare (λ s. s.id.0 ≡ id → IsOfKind s.kind (page_at (s.version / 1024) old) → IsOfKind s.kind (page_at (s.version / 1024) new))
+clear_room old new id version keep None rooms others free = tt
+clear_room old new id version true (Some s) rooms others free = λ same room. elim (eqb_tells (s.version / 1024) (version / 1024)) [
+  | inl here ↦ subst (λ n. IsOfKind s.kind (page_at n new)) (sym here.1) (rooms refl s.kind (subst (λ n. IsOfKind s.kind (page_at n old)) here.1 room))
+  | inr differs ↦ subst (IsOfKind s.kind) (sym (others (s.version / 1024) differs.1)) room
+]
+clear_room old new id version false (Some s) rooms others free = λ same room. subst (IsOfKind s.kind) (sym (others (s.version / 1024) (free refl same))) room
 
-pub kept_room : (old new : List Page) (id : ℕ) (spare : Option Spare) → ((n : ℕ) (k : kind.Kind) → IsOfKind k (page_at n old) → IsOfKind k (page_at n new)) → IfSome spare (λ s. s.id.0 ≡ id → IsOfKind s.kind (page_at (s.version / 1024) old) → IsOfKind s.kind (page_at (s.version / 1024) new))
-kept_room old new id None kept = tt
-kept_room old new id (Some s) kept = λ same room. kept (s.version / 1024) s.kind room
+-- Every page holds a value, or has the room.
+abbrev pub AreHeld : List Column → Option Spare → Type 0
+AreHeld columns spare = (id number : ℕ) → IfSome (page_at number (pages_of id columns)) (λ page. Holds page ⊎ IsRoom id number spare)
+
+pub weaker : (o : Option Page) (R S : Type 0) → (R → S) → IfSome o (λ page. Holds page ⊎ R) → IfSome o (λ page. Holds page ⊎ S)
+weaker None R S f h = tt
+weaker (Some p) R S f (inl h) = inl h
+weaker (Some p) R S f (inr r) = inr (f r)
+
+pub by_value : (o : Option Page) (R : Type 0) → IfSome o Holds → IfSome o (λ page. Holds page ⊎ R)
+by_value None R h = tt
+by_value (Some p) R h = inl h
+
+pub by_room : (o : Option Page) (R : Type 0) → R → IfSome o (λ page. Holds page ⊎ R)
+by_room None R r = tt
+by_room (Some p) R r = inr r
+
+pub value_alone : (o : Option Page) (R : Type 0) → (R → ⊥) → IfSome o (λ page. Holds page ⊎ R) → IfSome o Holds
+value_alone None R never h = tt
+value_alone (Some p) R never (inl h) = h
+value_alone (Some p) R never (inr r) = absurd (never r)
+
+pub no_room : (spare : Option Spare) → spare ≡ None → (id n : ℕ) → IsRoom id n spare → ⊥
+no_room spare is id n room = subst (IsRoom id n) is room
+
+pub other_room : (spare : Option Spare) (s : Spare) → spare ≡ Some s → (i n : ℕ) → (i ≡ s.id.0 → n ≡ s.version / 1024 → ⊥) → IsRoom i n spare → ⊥
+other_room spare s is i n apart room =
+    let mine : IsRoom i n (Some s) = subst (IsRoom i n) is room in
+    apart (sym mine.0) (sym mine.1)
+
+pub held_same : (columns after : List Column) (spare : Option Spare) → ((id : ℕ) → pages_of id after ≡ pages_of id columns) → AreHeld columns spare → AreHeld after spare
+held_same columns after spare same held id n = subst (λ xs. IfSome (page_at n xs) (λ page. Holds page ⊎ IsRoom id n spare)) (sym (same id)) (held id n)
+
+-- One page of one column is changed.
+pub set_held : (columns : List Column) (id : ℕ) (old new : Column) (before after : Option Spare) (n0 : ℕ) → id < length columns → old ≡ slice_index_or columns id old → AreHeld columns before → ((n : ℕ) → n ≢ n0 → page_at n new.pages.items ≡ page_at n old.pages.items) → IfSome (page_at n0 new.pages.items) (λ page. Holds page ⊎ IsRoom id n0 after) → ((i n : ℕ) → (i ≡ id → n ≡ n0 → ⊥) → IsRoom i n before → IsRoom i n after) → AreHeld (slice_set columns id new) after
+set_held columns id old new before after n0 inside is held others own moved i n = elim (eqb_tells i id) [
+  | inl same ↦ elim (eqb_tells n n0) [
+    | inl here ↦ subst (λ k. IfSome (page_at n (pages_of k (slice_set columns id new))) (λ page. Holds page ⊎ IsRoom k n after)) (sym same.1) (subst (λ m. IfSome (page_at m (pages_of id (slice_set columns id new))) (λ page. Holds page ⊎ IsRoom id m after)) (sym here.1) (subst (λ xs. IfSome (page_at n0 xs) (λ page. Holds page ⊎ IsRoom id n0 after)) (sym (column_after columns id old new inside is)) own))
+    | inr differs ↦
+        let kept : IfSome (page_at n new.pages.items) (λ page. Holds page ⊎ IsRoom id n before) = subst (λ o. IfSome o (λ page. Holds page ⊎ IsRoom id n before)) (sym (others n differs.1)) (subst (λ xs. IfSome (page_at n xs) (λ page. Holds page ⊎ IsRoom id n before)) (column_before columns id old inside is) (held id n)) in
+        subst (λ k. IfSome (page_at n (pages_of k (slice_set columns id new))) (λ page. Holds page ⊎ IsRoom k n after)) (sym same.1) (subst (λ xs. IfSome (page_at n xs) (λ page. Holds page ⊎ IsRoom id n after)) (sym (column_after columns id old new inside is)) (weaker (page_at n new.pages.items) _ _ (moved id n (λ e h. differs.1 h)) kept))
+  ]
+  | inr differs ↦ subst (λ xs. IfSome (page_at n xs) (λ page. Holds page ⊎ IsRoom i n after)) (sym (column_apart columns id new i differs.1)) (weaker (page_at n (pages_of i columns)) _ _ (moved i n (λ e h. differs.1 e)) (held i n))
+]
 
 -- The cell that has room reserved is in a column that there is, and its page is there.
 pub room_within : (columns : List Column) (spare : Option Spare) (s : Spare) → spare ≡ Some s → HasRoom columns spare → s.id.0 < length columns
@@ -163,3 +218,8 @@ same_pages columns after paged same = same_values columns after paged (pages_sam
 pub on_err : {T E : Type 0} {P : Type 0} (r : Result T E) → P → OnErr r P
 on_err (Ok x) p = tt
 on_err (Err e) p = p
+
+-- The page of a cell that was cleared holds a value, or has the room.
+pub clear_held : (o : Option Page) (R : Type 0) (keep : Bool) → (keep ≡ false → IfSome o Holds) → (keep ≡ true → R) → IfSome o (λ page. Holds page ⊎ R)
+clear_held o R true held room = by_room o R (room refl)
+clear_held o R false held room = by_value o R (held refl)

@@ -1,5 +1,5 @@
 -- What the bits say of a comparison of 64 numbers in lanes.
-use Rattle.std.proofs.Common.{◌≡◌, ◌≢◌, ◌<◌, ◌≤◌, ◌∙◌, ap, sym, refl, arith, ℕ, zero, suc, ◌+◌, ◌^◌, ◌-◌, ◌%◌, ◌/◌, ◌==◌, ℤ, pos, negsuc, ◌≤ℤ◌, List, length, map, Bool, true, false, cond, not, slice_index_or, ◌⊎◌, inl, inr, eqb, int_lt, replicate}
+use Rattle.std.proofs.Common.{◌≡◌, ◌<◌, ◌≤◌, ◌∙◌, ap, sym, refl, arith, ℕ, zero, suc, ◌+◌, ◌^◌, ◌-◌, ◌%◌, ◌==◌, ℤ, pos, negsuc, ◌≤ℤ◌, List, length, map, Bool, true, false, cond, not, slice_index_or, inl, inr, eqb, int_lt, replicate}
 use Rattle.std.specs.Int.{bit_at, bit_not}
 use Rattle.std.proofs.lemmas.Nat.Bits.{bit_at_not, bit_at-lt}
 use mir.Syntax.{w64}
@@ -59,10 +59,10 @@ signed_eq a b f g = elim (eqb_tells (of_z w64 a) (of_z w64 b)) [
       let one : a ≡ b = sym (to_z-of_z w64 a f) ∙ ap (to_z w64) same.1 ∙ to_z-of_z w64 b g in
       same.0 ∙ sym (ap is_eq (ap (int_cmp a) (sym one) ∙ tied_itself int_cmp_total a))
   | inr differs ↦ differs.0 ∙ sym (elim (int_cmp a b) as (λ r. int_cmp a b ≡ r → is_eq r ≡ false) [
-      | Less ↦ λ e. refl
-      | Equal ↦ λ e. absurd (differs.1 (ap (of_z w64) (int_cmp-IsAntisymmetric a b e)))
-      | Greater ↦ λ e. refl
-    ] refl)
+    | Less ↦ λ e. refl
+    | Equal ↦ λ e. absurd (differs.1 (ap (of_z w64) (int_cmp-IsAntisymmetric a b e)))
+    | Greater ↦ λ e. refl
+  ] refl)
 ]
 
 -- A bit of a word whose bits are all turned.

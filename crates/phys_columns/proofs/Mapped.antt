@@ -1,5 +1,5 @@
 -- A function from an attribute and a version, seen as one map: what the map has, and how it changes as the function does.
-use Rattle.std.proofs.Common.{◌≡◌, ◌≢◌, ◌<◌, ◌≤◌, ◌∙◌, ap, sym, refl, arith, ℕ, zero, suc, List, [], ◌∷◌, ◌++◌, Bool, true, false, cond, Option, Some, None, ◌⊎◌, inl, inr}
+use Rattle.std.proofs.Common.{◌≡◌, ◌≢◌, ◌<◌, ◌∙◌, ap, sym, refl, arith, ℕ, zero, suc, List, [], ◌∷◌, ◌++◌, true, false, cond, Option, Some, None, ◌⊎◌, inl, inr}
 use Rattle.std.specs.Option.{option_map_or}
 use Rattle.std.specs.declared.cmp.Ordering.TheVariants.{Less, Equal, Greater}
 use Rattle.std.specs.Ordering.{nat_cmp, eq_by_cmp, is_eq}
@@ -9,7 +9,7 @@ use Rattle.std.specs.FinMap as map
 use Rattle.std.specs.FinMap.{IsAntisymmetric, find, same_map, get-from_entries, get-insert, get-remove, nat_cmp-IsAntisymmetric, slice_cmp-IsAntisymmetric}
 use Rattle.std.proofs.lemmas.Bool.Decides.{eqb_tells, leb_tells}
 use Rattle.doc_values.specs.declared.value.Value.{Value}
-use Rattle.phys_columns.specs.Cells.{Cells, key_of, with_cell, without_cell}
+use Rattle.phys_columns.specs.Cells.{key_of, with_cell, without_cell}
 use Rattle.phys_columns.specs.Laws.{PutsAlone, TakesAlone}
 use Rattle.phys_columns.specs.Seen.{entries_of, entries_below, cells_of, IsWithin}
 
@@ -76,9 +76,9 @@ unfolding entries_of
 value_of_one id values zero w below = absurd (omega arith)
 value_of_one id values (suc v) w below = elim (eqb_tells w v) [
   | inl same ↦ elim (values v) as (λ o. values v ≡ o → find R (key_of id w) (option_map_or (λ value. (key_of id v, value) ∷ entries_of id values v) o (entries_of id values v)) ≡ values w) [
-      | None ↦ λ is. none_of (key_of id w) id values v (λ k under. other_version id w k (λ e. absurd (omega (arith, same.1, e)))) ∙ sym is ∙ ap values (sym same.1)
-      | Some value ↦ λ is. ap (λ k. find R (key_of id w) ((key_of id k, value) ∷ entries_of id values v)) (sym same.1) ∙ found (key_of id w) value (entries_of id values v) ∙ sym is ∙ ap values (sym same.1)
-    ] refl
+    | None ↦ λ is. none_of (key_of id w) id values v (λ k under. other_version id w k (λ e. absurd (omega (arith, same.1, e)))) ∙ sym is ∙ ap values (sym same.1)
+    | Some value ↦ λ is. ap (λ k. find R (key_of id w) ((key_of id k, value) ∷ entries_of id values v)) (sym same.1) ∙ found (key_of id w) value (entries_of id values v) ∙ sym is ∙ ap values (sym same.1)
+  ] refl
   | inr differs ↦
       let rest = value_of_one id values v w (omega (arith, differs.1)) in
       elim (values v) as (λ o. find R (key_of id w) (option_map_or (λ value. (key_of id v, value) ∷ entries_of id values v) o (entries_of id values v)) ≡ values w) [
@@ -120,9 +120,9 @@ unfolding cells_of
 get_cell values ids n within i w =
     get-from_entries nat_list_cmp_total (entries_below values ids n) (key_of i w) ∙ (elim (leb_tells (suc i) ids) [
       | inl under ↦ elim (leb_tells (suc w) n) [
-          | inl below ↦ value_below values ids n i w (omega (arith, under.1)) (omega (arith, below.1))
-          | inr above ↦ missing (λ j v less inside e. let same : w ≡ v = (cc) in absurd (omega (arith, same, above.1))) (λ value is. absurd (omega (arith, above.1, (within i w value is).1)))
-        ]
+        | inl below ↦ value_below values ids n i w (omega (arith, under.1)) (omega (arith, below.1))
+        | inr above ↦ missing (λ j v less inside e. let same : w ≡ v = (cc) in absurd (omega (arith, same, above.1))) (λ value is. absurd (omega (arith, above.1, (within i w value is).1)))
+      ]
       | inr past ↦ missing (λ j v less inside e. let same : i ≡ j = (cc) in absurd (omega (arith, same, past.1))) (λ value is. absurd (omega (arith, past.1, (within i w value is).0)))
     ])
   where
@@ -171,19 +171,25 @@ take_cells f g a b n id version within inside here kept = same_map nat_list_cmp_
 
 -- Cells are a map.
 pub puts_alone : PutsAlone
-puts_alone cells id version value = (get-insert nat_list_cmp_total cells (key_of id version) value (key_of id version) ∙ (elim (tells (key_of id version) (key_of id version)) [
-  | inl same ↦ ap (λ b. cond b (Some value) (map.get cells (key_of id version))) same.0
-  | inr differs ↦ absurd (differs.1 refl)
-]), λ i w apart. get-insert nat_list_cmp_total cells (key_of id version) value (key_of i w) ∙ (elim (tells (key_of i w) (key_of id version)) [
-  | inl same ↦ absurd (let k = same.1 in apart (cc) (cc))
-  | inr differs ↦ ap (λ b. cond b (Some value) (map.get cells (key_of i w))) differs.0
-]))
+puts_alone cells id version value = (
+  get-insert nat_list_cmp_total cells (key_of id version) value (key_of id version) ∙ (elim (tells (key_of id version) (key_of id version)) [
+    | inl same ↦ ap (λ b. cond b (Some value) (map.get cells (key_of id version))) same.0
+    | inr differs ↦ absurd (differs.1 refl)
+  ]),
+  λ i w apart. get-insert nat_list_cmp_total cells (key_of id version) value (key_of i w) ∙ (elim (tells (key_of i w) (key_of id version)) [
+    | inl same ↦ absurd (let k = same.1 in apart (cc) (cc))
+    | inr differs ↦ ap (λ b. cond b (Some value) (map.get cells (key_of i w))) differs.0
+  ]),
+)
 
 pub takes_alone : TakesAlone
-takes_alone cells id version = (get-remove nat_list_cmp_total cells (key_of id version) (key_of id version) ∙ (elim (tells (key_of id version) (key_of id version)) [
-  | inl same ↦ ap (λ b. cond b None (map.get cells (key_of id version))) same.0
-  | inr differs ↦ absurd (differs.1 refl)
-]), λ i w apart. get-remove nat_list_cmp_total cells (key_of id version) (key_of i w) ∙ (elim (tells (key_of i w) (key_of id version)) [
-  | inl same ↦ absurd (let k = same.1 in apart (cc) (cc))
-  | inr differs ↦ ap (λ b. cond b None (map.get cells (key_of i w))) differs.0
-]))
+takes_alone cells id version = (
+  get-remove nat_list_cmp_total cells (key_of id version) (key_of id version) ∙ (elim (tells (key_of id version) (key_of id version)) [
+    | inl same ↦ ap (λ b. cond b None (map.get cells (key_of id version))) same.0
+    | inr differs ↦ absurd (differs.1 refl)
+  ]),
+  λ i w apart. get-remove nat_list_cmp_total cells (key_of id version) (key_of i w) ∙ (elim (tells (key_of i w) (key_of id version)) [
+    | inl same ↦ absurd (let k = same.1 in apart (cc) (cc))
+    | inr differs ↦ ap (λ b. cond b None (map.get cells (key_of i w))) differs.0
+  ]),
+)

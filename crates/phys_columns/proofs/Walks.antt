@@ -1,5 +1,5 @@
 -- What a walk has left, as it goes on from place to place.
-use Rattle.std.proofs.Common.{◌≡◌, ◌≢◌, ◌<◌, ◌≤◌, ◌∙◌, ap, sym, refl, subst, arith, ℕ, zero, suc, ◌+◌, ◌-◌, ◌*◌, ◌/◌, ◌%◌, List, [], ◌∷◌, Bool, true, false, Option, Some, None, Bor, if◌then◌else◌, ◌⊎◌, inl, inr}
+use Rattle.std.proofs.Common.{◌≡◌, ◌<◌, ◌≤◌, ◌∙◌, ap, sym, refl, arith, ℕ, zero, suc, ◌+◌, ◌-◌, ◌*◌, List, [], ◌∷◌, true, false, Option, Some, None, Bor, if◌then◌else◌, inl, inr}
 use Rattle.std.specs.Option.{option_map_or, option_map}
 use Rattle.std.proofs.lemmas.Bool.Decides.{eqb_tells}
 use Rattle.doc_values.specs.declared.value.Value.{Value}
@@ -9,6 +9,7 @@ use Rattle.phys_columns.specs.Walked.{values_in, all_of}
 use Rattle.phys_columns.specs.Cells.{Cells, cell_at, values_from}
 use Rattle.phys_columns.specs.Inside.{ArePages, page_at, column_value}
 use Rattle.phys_columns.proofs.Paged.{page_is}
+use Rattle.phys_columns.proofs.Valued.{at_place}
 
 abbrev left : Option (Bor Page) → ℕ → List (ℕ × Value)
 left page place = option_map_or (λ p. values_in p.now place (1024 - place)) page []
@@ -26,6 +27,7 @@ skipped page place (suc n) r from upto none = elim (eqb_tells place r) [
   | inl same ↦ ap (λ (k : ℕ). values_in page k (suc n)) same.1 ∙ ap (values_in page r) (omega (arith, same.1))
   | inr differs ↦ passed page place n (none place (omega arith) (omega (arith, differs.1))) ∙ skipped page (place + 1) n r (omega (arith, differs.1)) (omega arith) (λ k low high. none k (omega arith) high) ∙ ap (values_in page r) (omega arith)
 ]
+
 given : (page : Page) (place n : ℕ) → is_marked page.marks place ≡ true → values_in page place (suc n) ≡ (1024 * page.number + place, value_in page.slots place) ∷ values_in page (place + 1) n
 unfolding values_in
 given page place n is = ap (λ b. option_map_or (λ value. (1024 * page.number + place, value) ∷ values_in page (place + 1) n) (if b then Some (value_in page.slots place) else None) (values_in page (place + 1) n)) is
@@ -71,13 +73,6 @@ walk_none id cells from (suc n) none =
     let here : cell_at id from cells ≡ None = ap (λ v. cell_at id v cells) (omega arith) ∙ none 0 (omega arith) in
     ap (λ o. option_map_or (λ value. (from, value) ∷ values_from id (from + 1) n cells) o (values_from id (from + 1) n cells)) here
     ∙ walk_none id cells (from + 1) n (λ k below. ap (λ v. cell_at id v cells) (omega arith) ∙ none (k + 1) (omega arith))
-
--- A version by its page and its place there.
-pub at_place : (pages : List Page) (number k : ℕ) → k < 1024 → column_value pages (1024 * number + k) ≡ option_map_or (λ p. value_at p k) (page_at number pages) None
-at_place pages number k below =
-    let page : (1024 * number + k) / 1024 ≡ number = omega arith in
-    let place : (1024 * number + k) % 1024 ≡ k = omega arith in
-    ap (λ (n : ℕ). option_map_or (λ p. value_at p ((1024 * number + k) % 1024)) (page_at n pages) None) page ∙ ap (λ (m : ℕ). option_map_or (λ p. value_at p m) (page_at number pages) None) place
 
 -- What a walk gives of a column.
 pub walked : (pages : List Page) (id number : ℕ) (cells : Cells) (page : Option (Bor Page)) → ArePages 0 pages → option_map (λ p. p.now) page ≡ page_at number pages → ((v : ℕ) → cell_at id v cells ≡ column_value pages v) → all_of page ≡ values_from id (1024 * number) 1024 cells

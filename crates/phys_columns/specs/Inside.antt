@@ -1,5 +1,5 @@
 -- How columns are kept: for each attribute its pages, in the order of their numbers.
-use Rattle.std.specs.Prelude.{◌≡◌, ℕ, ◌+◌, ◌*◌, ◌<◌, ◌≤◌, ◌/◌, ◌%◌, ◌==◌, List, [], ◌∷◌, length, Option, Some, None, if◌then◌else◌, slice_get, ⊤}
+use Rattle.std.specs.Prelude.{◌≡◌, ℕ, ◌+◌, ◌<◌, ◌≤◌, ◌/◌, ◌%◌, ◌==◌, List, [], ◌∷◌, length, Option, Some, None, if◌then◌else◌, slice_get, ⊤, ◌⊎◌, IfSome}
 use Rattle.std.specs.Option.{option_map_or}
 use Rattle.doc_values.specs.declared.kind.Kind as kind
 use Rattle.doc_values.specs.declared.value.Value.{Value}
@@ -7,7 +7,7 @@ use Rattle.phys_columns.specs.declared.column.Column.{Column}
 use Rattle.phys_columns.specs.declared.page.Page.{Page}
 use Rattle.phys_columns.specs.declared.spare.Spare.{Spare}
 use Rattle.phys_columns.specs.Cells.{Cells}
-use Rattle.phys_columns.specs.Pages.{kind_in, value_at, IsPage}
+use Rattle.phys_columns.specs.Pages.{kind_in, value_at, IsPage, Holds}
 use Rattle.phys_columns.specs.Seen.{cells_of}
 
 -- How many pages a column may have, and how many versions are in them.
@@ -58,7 +58,13 @@ abbrev pub HasRoom : List Column → Option Spare → Type 0
 HasRoom columns None = ⊤
 HasRoom columns (Some spare) = IsOfKind spare.kind (page_at (spare.version / 1024) (pages_of spare.id.0 columns))
 
--- Every column has pages in order, and the reserved cell its page.
+-- The room is reserved in the page of an attribute with a number.
+abbrev pub IsRoom : ℕ → ℕ → Option Spare → Type 0
+IsRoom id number None = ⊥
+IsRoom id number (Some spare) = (spare.id.0 ≡ id) × (spare.version / 1024 ≡ number)
+
+-- Every column has pages in order, the reserved cell has its page, and every other page holds a value.
 pub record AreColumns (columns : List Column) (spare : Option Spare) : Type 0 where
   pub paged : (id : ℕ) → ArePages 0 (pages_of id columns)
   pub room : HasRoom columns spare
+  pub held : (id number : ℕ) → IfSome (page_at number (pages_of id columns)) (λ page. Holds page ⊎ IsRoom id number spare)

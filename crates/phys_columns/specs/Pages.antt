@@ -1,5 +1,5 @@
 -- What a page holds: marks, a bit a version, and slots, in which the values of one kind stand.
-use Rattle.std.specs.Prelude.{◌≡◌, ℕ, ℤ, pos, ◌<◌, ◌≤◌, ◌/◌, ◌%◌, ◌==◌, List, [], length, Bool, true, false, Option, Some, None, if◌then◌else◌, slice_index, slice_index_or}
+use Rattle.std.specs.Prelude.{◌≡◌, ℕ, pos, ◌<◌, ◌/◌, ◌%◌, List, [], length, Bool, true, false, Option, Some, None, if◌then◌else◌, slice_index_or}
 use Rattle.doc_values.specs.declared.kind.Kind as kind
 use Rattle.doc_values.specs.declared.value.Value as value
 use Rattle.doc_values.specs.Value.{IsStorable}
@@ -61,3 +61,7 @@ pub record IsPage (page : Page) : Type 0 where
   pub whole : AreSlots page.slots
   pub storable : (place : ℕ) → IsStorable (value_in page.slots place)
   pub bare : (place : ℕ) → place < page_len → is_marked page.marks place ≡ false → text_in page.slots place ≡ []
+
+-- A value stands in the page.
+abbrev pub Holds : Page → Type 0
+Holds page = (place : ℕ) × (place < page_len) × (is_marked page.marks place ≡ true)

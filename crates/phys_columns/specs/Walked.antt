@@ -1,5 +1,5 @@
 -- What a walk has left: the values of a page from a place on, each with its version.
-use Rattle.std.specs.Prelude.{ℕ, zero, suc, ◌+◌, ◌-◌, ◌*◌, List, [], ◌∷◌, Option, Some, None}
+use Rattle.std.specs.Prelude.{ℕ, zero, suc, ◌+◌, ◌-◌, ◌*◌, List, [], ◌∷◌, Option}
 use Rattle.std.specs.Option.{option_map_or}
 use Rattle.doc_values.specs.declared.value.Value.{Value}
 use Rattle.std.specs.Borrow.{Bor}

@@ -1,11 +1,11 @@
-ghost use Rattle.std.specs.Prelude.{◌≡◌, ◌<◌, ◌≤◌, ◌≢◌, ◌+◌, ◌*◌, ◌/◌, ℕ, [], Some, None, MatchResult, IfSome, OnOk, is_some, length, option_map, slice_get};
+ghost use Rattle.std.specs.Prelude.{◌≡◌, ◌<◌, ◌≤◌, ◌≢◌, ◌+◌, ◌*◌, ◌/◌, ℕ, [], Some, None, MatchResult, IfSome, OnOk, OnErr, true, false, is_some, length, option_map, slice_get};
 ghost use Rattle.std.specs.Option.{ForSome};
 ghost use Rattle.doc_values.specs.declared.kind.Kind.{Kind as KindOf};
 ghost use Rattle.doc_values.specs.declared.value.Value.{Value as ValueOf};
 ghost use Rattle.doc_values.specs.Value.{kind_of, IsStorable};
 ghost use Rattle.phys_columns.specs.Lent.{owned};
 ghost use Rattle.phys_columns.specs.Filtered.{is_bit, is_met};
-ghost use Rattle.phys_columns.specs.Pages.{IsPage, AreSlots};
+ghost use Rattle.phys_columns.specs.Pages.{IsPage, AreSlots, Holds};
 ghost use Rattle.phys_columns.specs.Inside.{ArePages, FitsAt, IsOfKind, page_at, column_value, most_pages};
 
 use crate::compare_int::CompareInt;
@@ -77,24 +77,30 @@ impl Column {
         }
     }
 
-    /// Makes the page of a version, for values of a kind, where it is not there. One of another kind holds no value.
-    pub(crate) fn make_room(&mut self, alloc: Global, version: u32, kind: Kind) -> Result<(), AllocError>
+    /// Makes the page of a version, for values of a kind, where it is not there.
+    pub(crate) fn make_room(
+        &mut self,
+        alloc: Global,
+        version: u32,
+        kind: Kind,
+    ) -> Result<(), AllocError>
         requires pages { ArePages 0 self.old.pages.items }
+        requires held { (n : ℕ) → IfSome (page_at n self.old.pages.items) Holds }
         requires alike { (w : ℕ) (v : ValueOf) → column_value self.old.pages.items w ≡ Some v → kind_of v ≡ kind }
         ensures pages { ArePages 0 self.new.pages.items }
         ensures kept { (w : ℕ) → column_value self.new.pages.items w ≡ column_value self.old.pages.items w }
+        ensures others { (n : ℕ) → n ≢ version / 1024 → page_at n self.new.pages.items ≡ page_at n self.old.pages.items }
         ensures room { OnOk result (IsOfKind kind (page_at (version / 1024) self.new.pages.items)) }
+        ensures memory { OnErr result (self.new.pages.items ≡ self.old.pages.items) }
     {
         let number = version / 1024;
         match place(&self.pages, number) {
-            Ok(place) => {
-                if !self.pages[place].slots.is_of(kind) {
-                    self.pages[place] = Page::new(alloc, number, kind)?;
-                }
+            Ok(_) => Ok(()),
+            Err(place) => {
+                self.pages.insert(place, Page::new(alloc, number, kind)?)?;
+                Ok(())
             }
-            Err(place) => self.pages.insert(place, Page::new(alloc, number, kind)?)?,
         }
-        Ok(())
     }
 
     /// Puts a value in a version whose page is there.
@@ -105,20 +111,41 @@ impl Column {
         ensures pages { ArePages 0 self.new.pages.items }
         ensures here { column_value self.new.pages.items version ≡ Some value }
         ensures kept { (w : ℕ) → w ≢ version → column_value self.new.pages.items w ≡ column_value self.old.pages.items w }
+        ensures others { (n : ℕ) → n ≢ version / 1024 → page_at n self.new.pages.items ≡ page_at n self.old.pages.items }
+        ensures held { IfSome (page_at (version / 1024) self.new.pages.items) Holds }
     {
         if let Ok(place) = place(&self.pages, version / 1024) {
             self.pages[place].put((version % 1024) as usize, value);
         }
     }
 
-    /// Takes the value out of a version.
-    pub(crate) fn take(&mut self, alloc: Global, version: u32) -> Option<Value>
+    /// Takes the value out of a version, and lets the page go if it holds no value then and is not to be kept.
+    pub(crate) fn clear(&mut self, alloc: Global, version: u32, keep: bool) -> Option<Value>
         requires pages { ArePages 0 self.old.pages.items }
         ensures exact { result ≡ column_value self.old.pages.items version }
         ensures pages { ArePages 0 self.new.pages.items }
         ensures here { column_value self.new.pages.items version ≡ None }
         ensures kept { (w : ℕ) → w ≢ version → column_value self.new.pages.items w ≡ column_value self.old.pages.items w }
-        ensures room { (n : ℕ) (k : KindOf) → IsOfKind k (page_at n self.old.pages.items) → IsOfKind k (page_at n self.new.pages.items) }
+        ensures others { (n : ℕ) → n ≢ version / 1024 → page_at n self.new.pages.items ≡ page_at n self.old.pages.items }
+        ensures room { keep ≡ true → (k : KindOf) → IsOfKind k (page_at (version / 1024) self.old.pages.items) → IsOfKind k (page_at (version / 1024) self.new.pages.items) }
+        ensures held { keep ≡ false → IfSome (page_at (version / 1024) self.new.pages.items) Holds }
+    {
+        let taken = self.take(alloc, version);
+        if !keep {
+            self.let_go(version);
+        }
+        taken
+    }
+
+    // Takes the value out of a version, and keeps the page.
+    fn take(&mut self, alloc: Global, version: u32) -> Option<Value>
+        requires pages { ArePages 0 self.old.pages.items }
+        ensures exact { result ≡ column_value self.old.pages.items version }
+        ensures pages { ArePages 0 self.new.pages.items }
+        ensures here { column_value self.new.pages.items version ≡ None }
+        ensures kept { (w : ℕ) → w ≢ version → column_value self.new.pages.items w ≡ column_value self.old.pages.items w }
+        ensures others { (n : ℕ) → n ≢ version / 1024 → page_at n self.new.pages.items ≡ page_at n self.old.pages.items }
+        ensures room { (k : KindOf) → IsOfKind k (page_at (version / 1024) self.old.pages.items) → IsOfKind k (page_at (version / 1024) self.new.pages.items) }
     {
         match place(&self.pages, version / 1024) {
             Ok(place) => self.pages[place].take(alloc, (version % 1024) as usize),
@@ -131,12 +158,16 @@ impl Column {
         requires pages { ArePages 0 self.old.pages.items }
         ensures pages { ArePages 0 self.new.pages.items }
         ensures kept { (w : ℕ) → column_value self.new.pages.items w ≡ column_value self.old.pages.items w }
-        ensures room { (n : ℕ) → n ≢ version / 1024 → page_at n self.new.pages.items ≡ page_at n self.old.pages.items }
+        ensures others { (n : ℕ) → n ≢ version / 1024 → page_at n self.new.pages.items ≡ page_at n self.old.pages.items }
+        ensures held { IfSome (page_at (version / 1024) self.new.pages.items) Holds }
     {
-        if let Ok(place) = place(&self.pages, version / 1024) {
-            if self.pages[place].is_empty() {
-                self.pages.remove(place);
+        match place(&self.pages, version / 1024) {
+            Ok(place) => {
+                if self.pages[place].is_empty() {
+                    self.pages.remove(place);
+                }
             }
+            Err(_) => {}
         }
     }
 }

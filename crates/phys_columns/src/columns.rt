@@ -1,8 +1,8 @@
-ghost use Rattle.std.specs.Prelude.{◌≡◌, ◌≢◌, ◌<◌, ◌≤◌, ◌+◌, ◌*◌, ◌/◌, ℕ, Some, None, IfSome, IfOk, OnOk, OnErr, is_some, length, option_map};
+ghost use Rattle.std.specs.Prelude.{◌≡◌, ◌≢◌, ◌<◌, ◌≤◌, ◌+◌, ◌*◌, ◌/◌, ℕ, Some, None, IfSome, IfOk, OnOk, OnErr, true, false, is_some, length, option_map};
 ghost use Rattle.std.specs.FinMap as map;
 ghost use Rattle.doc_values.specs.Value.{kind_of, IsStorable};
 ghost use Rattle.phys_columns.specs.Lent.{owned};
-ghost use Rattle.phys_columns.specs.Inside.{pages_of};
+ghost use Rattle.phys_columns.specs.Inside.{pages_of, IsRoom};
 
 use crate::column::Column;
 use crate::compare_int::CompareInt;
@@ -124,13 +124,13 @@ impl Columns {
         Ok(())
     }
 
-    // Gives back the room that is reserved.
+    // Gives back the room that is reserved. A page that holds no value then is let go.
     fn release(&mut self)
         ensures exact { self.new ≡ record { cells = self.old.cells; spare = None } }
     {
         if let Some(spare) = self.spare {
             self.spare = None;
-            self.let_go(spare.id, spare.version);
+            self.columns[spare.id.0 as usize].let_go(spare.version);
         }
     }
 
@@ -149,33 +149,23 @@ impl Columns {
         ensures exact { self.new ≡ record { cells = without_cell id.0 version self.old.cells; spare = self.old.spare } }
         ensures taken { result ≡ cell_at id.0 version self.old.cells }
     {
-        let taken = self.take(id, version);
-        if !self.spare.is_some_and(|spare| spare.shares_page(id, version)) {
-            self.let_go(id, version);
-        }
-        taken
-    }
-
-    // Takes the value out of a cell, and keeps the page.
-    fn take(&mut self, id: AttrId, version: u32) -> Option<Value>
-        ensures exact { self.new ≡ record { cells = without_cell id.0 version self.old.cells; spare = self.old.spare } }
-        ensures taken { result ≡ cell_at id.0 version self.old.cells }
-    {
         let alloc = *self.columns.allocator();
+        let keep = has_room_at(self.spare, id, version);
         if id.0 as usize >= self.columns.len() {
             return None;
         }
-        self.columns[id.0 as usize].take(alloc, version)
+        self.columns[id.0 as usize].clear(alloc, version, keep)
     }
+}
 
-    // Lets the page of a cell go, if it holds no value.
-    fn let_go(&mut self, id: AttrId, version: u32)
-        requires free { IfSome self.old.spare (λ s. s.id.0 ≡ id.0 → s.version / 1024 ≢ version / 1024) }
-        ensures exact { self.new ≡ self.old }
-    {
-        if (id.0 as usize) < self.columns.len() {
-            self.columns[id.0 as usize].let_go(version);
-        }
+// Whether the room is reserved in the page of a cell.
+fn has_room_at(spare: Option<Spare>, id: AttrId, version: u32) -> bool
+    ensures yes { result ≡ true → IsRoom id.0 (version / 1024) spare }
+    ensures no { result ≡ false → IfSome spare (λ s. s.id.0 ≡ id.0 → s.version / 1024 ≢ version / 1024) }
+{
+    match spare {
+        Some(spare) => spare.id == id && spare.version / 1024 == version / 1024,
+        None => false,
     }
 }
 

@@ -4,5 +4,4 @@ ghost use Rattle.phys_columns.specs.Laws.{PutsAlone, TakesAlone};
 pub fn cells_are_a_map()
     ensures put { PutsAlone }
     ensures taken { TakesAlone }
-{
-}
+{}

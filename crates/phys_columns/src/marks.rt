@@ -57,9 +57,10 @@ impl Marks {
 
     /// Whether no version is marked.
     pub(crate) fn is_empty(&self) -> bool
-        ensures exact { result ≡ true → (k : ℕ) → is_marked self.now k ≡ false }
+        ensures none { result ≡ true → (k : ℕ) → k < 1024 → is_marked self.now k ≡ false }
+        ensures some { result ≡ false → (k : ℕ) × (k < 1024) × (is_marked self.now k ≡ true) }
     {
-        self.words.iter().all(|word| *word == 0)
+        self.next(0) == 1024
     }
 }
 

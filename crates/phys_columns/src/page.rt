@@ -1,9 +1,9 @@
-ghost use Rattle.std.specs.Prelude.{◌≡◌, ◌<◌, ◌≢◌, ◌+◌, ◌*◌, ◌&&◌, ℕ, pos, length, slice_index_or, Some, None, true, IfOk, is_some, option_map};
+ghost use Rattle.std.specs.Prelude.{◌≡◌, ◌<◌, ◌≢◌, ◌+◌, ◌*◌, ◌&&◌, ℕ, pos, length, slice_index_or, Some, None, true, false, IfOk, is_some, option_map};
 ghost use Rattle.doc_values.specs.declared.value.Value.TheVariants.{Int as IntOf};
 ghost use Rattle.doc_values.specs.Value.{kind_of, IsStorable};
 ghost use Rattle.phys_columns.specs.Lent.{owned};
 ghost use Rattle.phys_columns.specs.Filtered.{is_bit, is_met, admits_number};
-ghost use Rattle.phys_columns.specs.Pages.{kind_in, value_at, is_marked, page_len, IsPage};
+ghost use Rattle.phys_columns.specs.Pages.{kind_in, value_at, is_marked, page_len, IsPage, Holds};
 
 use crate::compare_int::CompareInt;
 use crate::comparing::met;
@@ -76,6 +76,7 @@ impl Page {
         ensures kept { (k : ℕ) → k ≢ place → value_at self.new k ≡ value_at self.old k }
         ensures number { self.new.number ≡ self.old.number }
         ensures page { IsPage self.new }
+        ensures held { Holds self.new }
     {
         self.slots.put(place, value);
         self.marks.set(place);
@@ -101,7 +102,8 @@ impl Page {
 
     /// Whether no value stands in the page.
     pub(crate) fn is_empty(&self) -> bool
-        ensures exact { result ≡ true → (k : ℕ) → value_at self.now k ≡ None }
+        ensures none { result ≡ true → (k : ℕ) → k < page_len → value_at self.now k ≡ None }
+        ensures some { result ≡ false → Holds self.now }
     {
         self.marks.is_empty()
     }

@@ -1,7 +1,6 @@
 ghost use Rattle.std.specs.Prelude.{◌≡◌, ◌<◌, ◌≢◌, ℕ, List, [], pos, IfOk, length, slice_index_or};
 ghost use Rattle.std.specs.List.{All};
 ghost use Rattle.doc_values.specs.Value.{kind_of, IsStorable};
-ghost use Rattle.doc_values.specs.Order.{same_kind};
 ghost use Rattle.phys_columns.specs.Lent.{owned};
 ghost use Rattle.phys_columns.specs.Pages.{AreSlots, kind_in, value_in, text_in, page_len};
 
@@ -33,19 +32,6 @@ impl Slots {
             Kind::Text => Ok(Slots::Texts(blanks(alloc)?)),
             Kind::Array => Ok(Slots::Arrays(blanks(alloc)?)),
             Kind::Object => Ok(Slots::Objects),
-        }
-    }
-
-    /// Whether the values are of a kind.
-    pub(crate) fn is_of(&self, kind: Kind) -> bool
-        ensures exact { result ≡ same_kind (kind_in self.now) kind }
-    {
-        match self {
-            Slots::Truths(_) => matches!(kind, Kind::Bool),
-            Slots::Numbers(_) => matches!(kind, Kind::Int),
-            Slots::Texts(_) => matches!(kind, Kind::Text),
-            Slots::Arrays(_) => matches!(kind, Kind::Array),
-            Slots::Objects => matches!(kind, Kind::Object),
         }
     }
 

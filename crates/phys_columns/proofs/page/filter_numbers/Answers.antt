@@ -1,4 +1,4 @@
-use Rattle.std.proofs.Common.{◌≡◌, ◌∙◌, ◌+◌, ◌*◌, ◌&&◌, ap, sym, arith, ℕ, pos, slice_index_or, ◌⊎◌, inl, inr}
+use Rattle.std.proofs.Common.{◌∙◌, ◌+◌, ◌*◌, ◌&&◌, ap, sym, arith, ℕ, pos, slice_index_or, inl, inr}
 use Rattle.std.proofs.lemmas.List.{length-set}
 use Rattle.std.proofs.lemmas.Bool.Decides.{eqb_tells}
 use Rattle.phys_columns.specs.Filtered.{is_bit, admits_number}

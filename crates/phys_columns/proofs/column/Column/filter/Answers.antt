@@ -3,7 +3,7 @@ use Rattle.std.specs.Option.{option_map_or}
 use Rattle.phys_columns.specs.Filtered.{is_met}
 use Rattle.phys_columns.specs.Pages.{value_at}
 use Rattle.phys_columns.proofs.Bits.{no_bit}
-use Rattle.phys_columns.proofs.Walks.{at_place}
+use Rattle.phys_columns.proofs.Valued.{at_place}
 use Rattle.phys_columns.proofs.column.Column.filter.Goals as goal
 
 pub returns-in-Some : goal.returns-in-Some

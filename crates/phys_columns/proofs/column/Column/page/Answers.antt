@@ -2,7 +2,7 @@ use Rattle.std.proofs.Common.{◌≡◌, ◌<◌, subst, Bor}
 use Rattle.phys_columns.specs.declared.page.Page.{Page}
 use Rattle.phys_columns.specs.Pages.{AreSlots}
 use Rattle.phys_columns.specs.Inside.{most_pages}
-use Rattle.phys_columns.proofs.Valued.{StandsAt, stands}
+use Rattle.phys_columns.proofs.Valued.{stands}
 use Rattle.phys_columns.proofs.column.Column.page.Goals as goal
 
 pub returns-in-Ok-clause-page : goal.returns-in-Ok-clause-page

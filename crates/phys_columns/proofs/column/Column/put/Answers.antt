@@ -1,7 +1,7 @@
 use Rattle.std.proofs.Common.{◌∙◌, subst}
 use Rattle.phys_columns.specs.Inside.{IsOfKind}
 use Rattle.doc_values.specs.Value.{kind_of}
-use Rattle.phys_columns.proofs.Valued.{stands, changed_pages, changed_here, changed_kept}
+use Rattle.phys_columns.proofs.Valued.{stands, changed_pages, changed_here, changed_kept, changed_held, other_at}
 use Rattle.phys_columns.proofs.column.Column.put.Goals as goal
 
 pub put-requires-clause-page : goal.put-requires-clause-page
@@ -19,4 +19,6 @@ returns-in-Ok c =
       pages = changed_pages _ c.args.version _ _ _ s c.put.ensures.number c.put.ensures.page;
       here = changed_here _ c.args.version _ _ _ s c.put.ensures.number c.put.ensures.page ∙ c.put.ensures.here;
       kept = changed_kept _ c.args.version _ _ _ s c.put.ensures.number c.put.ensures.page c.put.ensures.kept;
+      others = other_at _ c.args.version _ _ _ s c.put.ensures.number c.put.ensures.page;
+      held = changed_held _ c.args.version _ _ _ s c.put.ensures.number c.put.ensures.page c.put.ensures.held;
     }

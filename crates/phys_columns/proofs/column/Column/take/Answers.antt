@@ -1,5 +1,5 @@
 use Rattle.std.proofs.Common.{◌∙◌, ap, sym}
-use Rattle.phys_columns.proofs.Valued.{stands, value_on, changed_pages, changed_here, changed_kept, changed_rooms}
+use Rattle.phys_columns.proofs.Valued.{stands, value_on, changed_pages, changed_here, changed_kept, changed_rooms, other_at}
 use Rattle.phys_columns.proofs.column.Column.take.Goals as goal
 
 pub take-requires-clause-page : goal.take-requires-clause-page
@@ -13,5 +13,6 @@ returns-in-Ok c =
       pages = changed_pages _ c.args.version _ _ _ s c.take.ensures.number c.take.ensures.page;
       here = changed_here _ c.args.version _ _ _ s c.take.ensures.number c.take.ensures.page ∙ c.take.ensures.here;
       kept = changed_kept _ c.args.version _ _ _ s c.take.ensures.number c.take.ensures.page c.take.ensures.kept;
+      others = other_at _ c.args.version _ _ _ s c.take.ensures.number c.take.ensures.page;
       room = changed_rooms _ c.args.version _ _ _ s c.take.ensures.number c.take.ensures.page c.take.ensures.kind;
     }

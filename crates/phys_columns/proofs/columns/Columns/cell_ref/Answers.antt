@@ -1,6 +1,5 @@
-use Rattle.std.proofs.Common.{◌∙◌, ap, sym}
-use Rattle.phys_columns.specs.Cells.{cell_at}
-use Rattle.phys_columns.proofs.Held.{paged_there, read_some, read_none}
+use Rattle.std.proofs.Common.{◌∙◌, sym}
+use Rattle.phys_columns.proofs.Held.{read_some, read_none}
 use Rattle.phys_columns.proofs.columns.Columns.cell_ref.Goals as goal
 
 pub returns-in-Some : goal.returns-in-Some

@@ -1,4 +1,4 @@
-use Rattle.std.proofs.Common.{◌≤◌, refl, arith, ◌⊎◌, inl, inr}
+use Rattle.std.proofs.Common.{refl, arith, inl, inr}
 use Rattle.std.proofs.lemmas.Bool.Decides.{leb_tells}
 use Rattle.phys_columns.proofs.Marked.{same_word, none_marked}
 use Rattle.phys_columns.proofs.marks.Marks.next.Goals as goal

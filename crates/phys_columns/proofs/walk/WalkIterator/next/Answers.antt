@@ -1,5 +1,4 @@
-use Rattle.std.proofs.Common.{◌≡◌, ◌<◌, ◌+◌, ap, arith, rules, length}
-use Rattle.phys_columns.specs.Walked.{left_of, shown}
+use Rattle.std.proofs.Common.{ap, arith, rules, length}
 use Rattle.phys_columns.proofs.Walks.{left_none, left_end, left_next}
 use Rattle.phys_columns.proofs.walk.WalkIterator.next.Goals as goal
 
