@@ -31,7 +31,13 @@ fn run(rt: &HostRuntime, columns: &mut Columns, line: &str) -> Result<String>
     let fourth = words.next().unwrap_or("");
     match name {
         "put" => {
-            put(columns, rt.alloc(), first.parse()?, second.parse()?, third.parse()?)?;
+            put(
+                columns,
+                rt.alloc(),
+                first.parse()?,
+                second.parse()?,
+                third.parse()?,
+            )?;
             Ok("ok".to_string(rt.alloc())?)
         }
         "clear" => {
@@ -47,7 +53,13 @@ fn run(rt: &HostRuntime, columns: &mut Columns, line: &str) -> Result<String>
 }
 
 // The answer of a command that changes nothing.
-fn read(rt: &HostRuntime, columns: &Columns, name: &str, id: u32, words: [&str; 3]) -> Result<String> {
+fn read(
+    rt: &HostRuntime,
+    columns: &Columns,
+    name: &str,
+    id: u32,
+    words: [&str; 3],
+) -> Result<String> {
     let alloc = rt.alloc();
     match name {
         "has" => Ok(columns.has(AttrId(id), words[0].parse()?).to_string(alloc)?),

@@ -83,7 +83,9 @@ fn step(
     }
     let number = numbers.get(&(id, version)).copied();
     let value = columns.cell_ref(AttrId(id), version);
-    if columns.has(AttrId(id), version) != number.is_some() || !is_named(alloc, value, id, number)? {
+    if columns.has(AttrId(id), version) != number.is_some()
+        || !is_named(alloc, value, id, number)?
+    {
         bail!("another value stands in the cell");
     }
     Ok(())
@@ -118,7 +120,13 @@ fn compare_pages(alloc: Global, columns: &Columns, numbers: &Numbers) -> Result<
 }
 
 // How many values a walk gives, which rise by version and are those of the map.
-fn compare_walk(alloc: Global, columns: &Columns, numbers: &Numbers, id: u32, page: u32) -> Result<usize> {
+fn compare_walk(
+    alloc: Global,
+    columns: &Columns,
+    numbers: &Numbers,
+    id: u32,
+    page: u32,
+) -> Result<usize> {
     let mut count = 0usize;
     let mut last = None;
     for (version, value) in columns.walk(AttrId(id), page) {
@@ -147,12 +155,19 @@ fn compare_filters(columns: &Columns, numbers: &Numbers, id: u32, page: u32) -> 
     Ok(())
 }
 
-fn compare_mask(mask: &Mask, numbers: &Numbers, id: u32, page: u32, test: CompareInt) -> Result<()> {
+fn compare_mask(
+    mask: &Mask,
+    numbers: &Numbers,
+    id: u32,
+    page: u32,
+    test: CompareInt,
+) -> Result<()> {
     for word in 0..16_usize {
         for bit in 0..64_u32 {
             let place = 64 * word as u32 + bit;
-            let met = number_at(numbers, id, page, place)
-                .is_some_and(|number| test.op.admits(number.cmp(&test.with)));
+            let met = number_at(numbers, id, page, place).is_some_and(|number| test
+                .op
+                .admits(number.cmp(&test.with)));
             if ((mask.words[word] >> bit) & 1 == 1) != met {
                 bail!("a bit of a mask differs");
             }

@@ -36,7 +36,13 @@ pub(crate) fn touch(alloc: Global, count: u32) -> Result<String> {
 fn filled(alloc: Global, count: u32) -> Result<Columns> {
     let mut columns = empty(alloc);
     for version in 0..count {
-        put(&mut columns, alloc, 0, version, i64::from(version.wrapping_mul(7_919)))?;
+        put(
+            &mut columns,
+            alloc,
+            0,
+            version,
+            i64::from(version.wrapping_mul(7_919)),
+        )?;
     }
     Ok(columns)
 }
@@ -121,7 +127,11 @@ fn look_in_order(columns: &Columns, pages: u32) -> i128
     let mut version = 0;
     for _ in 0..READINGS {
         sum = sum.wrapping_add(number_at(columns, version));
-        version = if version >= versions - 1 { 0 } else { version + 1 };
+        version = if version >= versions - 1 {
+            0
+        } else {
+            version + 1
+        };
     }
     sum
 }

@@ -47,7 +47,13 @@ pub(crate) fn empty(alloc: Global) -> Columns
 }
 
 /// Puts the value that a number names in a cell.
-pub(crate) fn put(columns: &mut Columns, alloc: Global, id: u32, version: u32, number: i64) -> Result<()>
+pub(crate) fn put(
+    columns: &mut Columns,
+    alloc: Global,
+    id: u32,
+    version: u32,
+    number: i64,
+) -> Result<()>
     requires { AreTyped columns.old.cells }
     ensures { AreTyped columns.new.cells }
 {
