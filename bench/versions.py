@@ -3,11 +3,20 @@
 
     bench/versions.py
 """
-import os
 import subprocess
 import sys
+import time
 
 from common import built, heading
+
+
+def highest(pid):
+    """The highest memory of a running program so far, in bytes: its own, and not that of the process that started it."""
+    try:
+        with open("/proc/%d/status" % pid) as status:
+            return max((int(line.split()[1]) * 1024 for line in status if line.startswith("VmHWM")), default=0)
+    except OSError:
+        return 0
 
 
 def told(text):
@@ -15,15 +24,17 @@ def told(text):
     program = subprocess.Popen([built("versions_bench")], stdin=subprocess.PIPE, stdout=subprocess.PIPE)
     program.stdin.write(text.encode())
     program.stdin.close()
-    words = program.stdout.read().decode().split()
-    _, status, used = os.wait4(program.pid, 0)
-    if status != 0:
-        sys.exit("the program ended with %d" % status)
-    return words, used.ru_maxrss * 1024
+    peak = 0
+    while program.poll() is None:
+        peak = max(peak, highest(program.pid))
+        time.sleep(0.001)
+    if program.returncode != 0:
+        sys.exit("the program ended with %d" % program.returncode)
+    return program.stdout.read().decode().split(), peak
 
 
 def main():
-    _, bare = told("")
+    _, bare = told("time 1\n")
     heading("rows of one version", "append, ns", "newest of a random row, ns", "a row of one version, ns",
             "a row of 1,000, ns", "bytes a version, at most")
     for rows in (1024, 65536, 2097152):
