@@ -4,3 +4,4 @@ pub mod Place
 pub mod Laws
 pub mod Order
 pub mod Weight
+pub mod Lent

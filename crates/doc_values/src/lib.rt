@@ -18,6 +18,7 @@ mod laws;
 mod spelling;
 mod utf;
 mod value;
+mod value_ref;
 
 pub use argv::Argv;
 pub use attr_id::AttrId;
@@ -32,3 +33,4 @@ pub use laws::{documents_are_maps, printed_values_are_one_line, values_are_in_to
 pub use spelling::spell;
 pub use utf::Utf;
 pub use value::Value;
+pub use value_ref::ValueRef;

@@ -2,11 +2,10 @@ ghost use Rattle.std.specs.Prelude.{◌≡◌, ◌++◌, IfOk, OnOk, OnErr, IsTr
 ghost use Rattle.std.specs.Int.{w64, cast_signed, from_le_bytes};
 ghost use Rattle.std.specs.Str.{is_utf8};
 ghost use Rattle.doc_values.specs.Value.{kind_of, IsStorable};
-ghost use Rattle.row_columns.specs.Lent.{owned};
+ghost use Rattle.doc_values.specs.Lent.{owned};
 ghost use Rattle.document_records.specs.StoredValue.{bytes_of, value_in, AreReadable, ReadsBack, AreToldApart};
 
-use doc_values::{Kind, Utf, Value};
-use row_columns::ValueRef;
+use doc_values::{Kind, Utf, Value, ValueRef};
 use std::alloc::{AllocError, Global};
 
 /// Puts the bytes of a value behind those that are there.

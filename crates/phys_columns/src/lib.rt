@@ -15,7 +15,6 @@ mod mask;
 mod page;
 mod slots;
 mod spare;
-mod value_ref;
 mod walk;
 
 pub use columns::Columns;
@@ -23,5 +22,5 @@ pub use compare_int::CompareInt;
 pub use laws::cells_are_a_map;
 pub use mask::Mask;
 pub use spare::Spare;
-pub use value_ref::ValueRef;
+pub use doc_values::ValueRef;
 pub use walk::Walk;

@@ -1,11 +1,11 @@
 ghost use Rattle.std.specs.Prelude.{◌≡◌, ℕ, List, [], ◌∷◌, ◌++◌, Some, IfOk, OnErr, length, option_map, string_bytes};
 ghost use Rattle.doc_values.specs.declared.value.Value.TheVariants as value;
-ghost use Rattle.row_columns.specs.Lent.{owned};
+ghost use Rattle.doc_values.specs.Lent.{owned};
 ghost use Rattle.row_columns.specs.Column.{text_at, IsSpan, cell_in, IsCellIn, KeepsSpans, KeepsCells};
 
 use crate::cell::Cell;
 use crate::span::Span;
-use crate::value_ref::ValueRef;
+use doc_values::ValueRef;
 use std::alloc::AllocError;
 
 /// The most bytes of text that a column holds.

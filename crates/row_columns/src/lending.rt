@@ -1,10 +1,10 @@
 ghost use Rattle.std.specs.Prelude.{◌≡◌, option_map};
-ghost use Rattle.row_columns.specs.Lent.{owned};
+ghost use Rattle.doc_values.specs.Lent.{owned};
 ghost use Rattle.row_columns.specs.Column.{text_at, IsSpan, cell_in, IsCellIn};
 
 use crate::cell::Cell;
 use crate::span::Span;
-use crate::value_ref::ValueRef;
+use doc_values::ValueRef;
 
 // The value of a cell, lent.
 pub(crate) fn lent<'a>(texts: &'a str, wides: &[i128], cell: Cell) -> Option<ValueRef<'a>>
