@@ -5,3 +5,5 @@ pub mod Laws
 pub mod Order
 pub mod Weight
 pub mod Lent
+pub mod Spans
+pub mod Packed

@@ -11,7 +11,6 @@ mod filling;
 mod lending;
 mod place;
 mod sides;
-mod span;
 mod table_rows;
 mod tuples;
 
