@@ -76,23 +76,6 @@ module _ (names : Named) (stored : List Stored) (together : BelongTogether names
       some_same : {o : Option Kinds} {x y : Kinds} → o ≡ Some x → o ≡ Some y → y ≡ x
       some_same p q = cc
 
-  -- a name that stands at a place has the numbers there
-  pub kinds-there : (name : List ℕ) (place : ℕ) (kinds : Kinds) → name_at names place ≡ name → option_map (λ n. n.1) (slice_get names place) ≡ Some kinds → kinds ≡ kinds_of name (all_shown names stored)
-  kinds-there name place kinds here at = by (slice_get names place) refl at
-    where
-      by : (o : Option (List ℕ × Kinds)) → slice_get names place ≡ o → option_map (λ n. n.1) o ≡ Some kinds → kinds ≡ kinds_of name (all_shown names stored)
-      by None e h = absurd (cc)
-      by (Some n) e h =
-          let is : kinds ≡ n.1 = cc in is ∙ together.kinds place n e ∙ ap (λ t. kinds_of t (all_shown names stored)) (sym (name-at names place n e) ∙ here)
-
-  -- the name of an attribute that is stored is among the names
-  pub place-within : (id place : ℕ) → Some place ≡ option_map (λ s. s.name) (slice_get stored id) → place < length names
-  place-within id place h = by (slice_get stored id) refl h
-    where
-      by : (o : Option Stored) → slice_get stored id ≡ o → Some place ≡ option_map (λ s. s.name) o → place < length names
-      by None e k = absurd (cc)
-      by (Some s) e k = let is : s.name ≡ place = cc in subst (λ p. p < length names) is (together.named id s e)
-
 -- ---- one attribute changed
 
 -- the pair of an attribute, which no change touches

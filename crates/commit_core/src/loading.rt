@@ -141,10 +141,12 @@ fn number_fields(
 
 // Notes which attribute followed, in the slot of the one before it.
 fn note_follower(followers: &mut Vec<u32>, slot: usize, id: u32) -> Result<(), AllocError> {
-    while followers.len() <= slot {
-        followers.push(0)?;
+    if followers.len() <= slot {
+        followers.resize(slot.saturating_add(1), 0)?;
     }
-    followers[slot] = id;
+    if let Some(follower) = followers.get_mut(slot) {
+        *follower = id;
+    }
     Ok(())
 }
 

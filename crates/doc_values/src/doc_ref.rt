@@ -54,11 +54,7 @@ impl<'a> DocRef<'a> {
     }
 }
 
-fn field_at<'a>(
-    texts: &'a str,
-    fields: &'a [FieldCell],
-    place: usize,
-) -> (&'a str, ValueRef<'a>)
+fn field_at<'a>(texts: &'a str, fields: &'a [FieldCell], place: usize) -> (&'a str, ValueRef<'a>)
     requires within { place < length fields.now }
     requires packed { IsPacked texts.now fields.now }
     ensures exact { slice_get (fields_in texts.now fields.now) place ≡ Some (result.0.now, owned result.1) }

@@ -19,8 +19,8 @@ mod walk;
 
 pub use columns::Columns;
 pub use compare_int::CompareInt;
+pub use doc_values::ValueRef;
 pub use laws::cells_are_a_map;
 pub use mask::Mask;
 pub use spare::Spare;
-pub use doc_values::ValueRef;
 pub use walk::Walk;
