@@ -78,6 +78,28 @@ impl Catalog {
         }
     }
 
+    /// The number of the attribute of a name and a kind. Where the attribute that is guessed has that name, no look-up is
+    /// needed.
+    pub fn find_guessed(&self, guess: AttrId, name: &str, kind: Kind) -> Option<AttrId>
+        ensures exact { result ≡ id_of name.now kind self.now }
+    {
+        self.kinds_guessed(guess, name).of(kind)
+    }
+
+    // The numbers of the attributes of a name, which an attribute may have.
+    fn kinds_guessed(&self, guess: AttrId, name: &str) -> Kinds
+        ensures exact { result ≡ kinds_of name.now self.now }
+    {
+        let Some(place) = place_of(&self.stored, guess) else {
+            return self.kinds_of(name);
+        };
+        if self.names.text(place) == name {
+            self.names.kinds(place)
+        } else {
+            self.kinds_of(name)
+        }
+    }
+
     /// The number of the attribute of a name and a kind, which is appended where it is new.
     pub fn add(&mut self, name: &str, kind: Kind) -> Result<AttrId, AddFault>
         ensures ok { OnOk result (self.new ≡ with_pair name.now kind self.old) }
@@ -247,4 +269,11 @@ impl Catalog {
             self.names.forget(last.name, last.kind);
         }
     }
+}
+
+// The place of the name of an attribute.
+fn place_of(stored: &[Stored], id: AttrId) -> Option<usize>
+    ensures exact { result ≡ option_map (λ s. s.name) (slice_get stored.now id.0) }
+{
+    Some(stored.get(id.0 as usize)?.name)
 }

@@ -1,9 +1,9 @@
 ghost use Rattle.std.specs.Prelude.{◌≡◌, ◌≤◌, [], All, Err, None, OnOk, OnErr, false, option_copied, position, true};
 ghost use Rattle.doc_flatten.specs.Documents.{IsWithinLimits};
 
-use crate::documents::Documents;
 use crate::load_refusal::LoadRefusal;
 use crate::table::Table;
+use doc_values::Documents;
 use std::alloc::Global;
 use std::marker::Model;
 

@@ -8,7 +8,6 @@
 mod collections;
 mod column_path;
 mod counting;
-mod documents;
 mod entry;
 mod laws;
 mod limits;

@@ -11,10 +11,9 @@ ghost use Rattle.document_records.specs.Parts.{AreIn};
 ghost use Rattle.commit_core.specs.Loading.{HasGrown, HaveEntries, fields_of, HasDocuments, HasFront, HasLoaded, is_too_much};
 
 use crate::counting::count_all;
-use crate::documents::Documents;
 use crate::load_refusal::LoadRefusal;
 use attr_catalog::{AddFault, Catalog};
-use doc_values::{Doc, Kind, documents_are_maps};
+use doc_values::{AttrId, DocRef, Documents, Kind, documents_are_maps};
 use document_records::{Parts, Record, kind_stored, records_keep_documents};
 use std::alloc::AllocError;
 
@@ -25,6 +24,7 @@ const MOST_VERSIONS: usize = 2_097_152;
 pub(crate) fn load(
     catalog: &mut Catalog,
     records: &mut Vec<Record>,
+    followers: &mut Vec<u32>,
     documents: &Documents,
 ) -> Result<(), LoadRefusal>
     requires limits { All IsWithinLimits documents.now }
@@ -41,7 +41,7 @@ pub(crate) fn load(
     }
     let attributes = catalog.len();
     let versions = records.len();
-    match append_all(catalog, records, documents) {
+    match append_all(catalog, records, followers, documents) {
         Ok(()) => {
             catalog.keeps_the_rules();
             count_all(catalog, &records[versions..]);
@@ -59,6 +59,7 @@ pub(crate) fn load(
 fn append_all(
     catalog: &mut Catalog,
     records: &mut Vec<Record>,
+    followers: &mut Vec<u32>,
     documents: &Documents,
 ) -> Result<(), LoadRefusal>
     requires limits { All IsWithinLimits documents.now }
@@ -77,7 +78,8 @@ fn append_all(
         append(
             catalog,
             records,
-            documents.get(place),
+            followers,
+            &documents.get(place),
             &mut entries,
             &mut parts,
         )?;
@@ -89,7 +91,8 @@ fn append_all(
 fn append(
     catalog: &mut Catalog,
     records: &mut Vec<Record>,
-    document: &Doc,
+    followers: &mut Vec<u32>,
+    document: &DocRef<'_>,
     entries: &mut Vec<(u32, usize)>,
     parts: &mut Parts,
 ) -> Result<(), LoadRefusal>
@@ -103,7 +106,7 @@ fn append(
     ensures full { result ≡ Err LoadRefusal.Full → most_attributes < length (with_fields (pairs_of catalog.old) document.now) }
 {
     records_keep_documents();
-    number_fields(catalog, document, entries)?;
+    number_fields(catalog, followers, document, entries)?;
     catalog.keeps_the_rules();
     entries.sort_unstable();
     fill(parts, document, entries)?;
@@ -111,10 +114,11 @@ fn append(
     Ok(())
 }
 
-// Numbers the fields of a document.
+// Numbers the fields of a document. Behind each attribute the one is tried first that followed it the last time.
 fn number_fields(
     catalog: &mut Catalog,
-    document: &Doc,
+    followers: &mut Vec<u32>,
+    document: &DocRef<'_>,
     entries: &mut Vec<(u32, usize)>,
 ) -> Result<(), LoadRefusal>
     ensures grown { HasGrown catalog.old catalog.new }
@@ -123,21 +127,44 @@ fn number_fields(
     ensures full { result ≡ Err LoadRefusal.Full → most_attributes < length (with_fields (pairs_of catalog.old) document.now) }
 {
     entries.clear();
+    let mut slot = 0;
     for place in 0..document.len() {
         let (name, value) = document.field(place);
-        let id = number_pair(catalog, name, kind_stored(value))?;
+        let guess = AttrId(followers.get(slot).copied().unwrap_or(0));
+        let id = number_pair(catalog, guess, name, kind_stored(value))?;
+        note_follower(followers, slot, id)?;
+        slot = id as usize + 1;
         entries.push((id, place))?;
     }
     Ok(())
 }
 
+// Notes which attribute followed, in the slot of the one before it.
+fn note_follower(followers: &mut Vec<u32>, slot: usize, id: u32) -> Result<(), AllocError> {
+    if followers.len() <= slot {
+        followers.resize(slot.saturating_add(1), 0)?;
+    }
+    if let Some(follower) = followers.get_mut(slot) {
+        *follower = id;
+    }
+    Ok(())
+}
+
 // The number of a pair, which is appended where it is new.
-fn number_pair(catalog: &mut Catalog, name: &str, kind: Kind) -> Result<u32, LoadRefusal>
+fn number_pair(
+    catalog: &mut Catalog,
+    guess: AttrId,
+    name: &str,
+    kind: Kind,
+) -> Result<u32, LoadRefusal>
     ensures grown { HasGrown catalog.old catalog.new }
     ensures number { IfOk result (λ id. slice_get (pairs_of catalog.new) id ≡ Some (name.now, kind)) }
     ensures pairs { OnOk result (pairs_of catalog.new ≡ with_pair (pairs_of catalog.old) (name.now, kind)) }
     ensures full { result ≡ Err LoadRefusal.Full → most_attributes < length (with_pair (pairs_of catalog.old) (name.now, kind)) }
 {
+    if let Some(id) = catalog.find_guessed(guess, name, kind) {
+        return Ok(id.0);
+    }
     match catalog.add(name, kind) {
         Ok(id) => Ok(id.0),
         Err(AddFault::Full) => Err(LoadRefusal::Full),
@@ -146,7 +173,11 @@ fn number_pair(catalog: &mut Catalog, name: &str, kind: Kind) -> Result<u32, Loa
 }
 
 // Puts the fields of a document's entries in place of those that were there.
-fn fill(parts: &mut Parts, document: &Doc, entries: &[(u32, usize)]) -> Result<(), AllocError>
+fn fill(
+    parts: &mut Parts,
+    document: &DocRef<'_>,
+    entries: &[(u32, usize)],
+) -> Result<(), AllocError>
     requires within { All (λ entry. entry.1 < length document.now) entries.now }
     requires fit { length (values (fields_of document.now entries.now)) ≤ most_weight }
     ensures ok { OnOk result (AreIn (fields_of document.now entries.now) parts.new) }

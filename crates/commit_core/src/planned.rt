@@ -1,5 +1,4 @@
-use crate::documents::Documents;
-use doc_values::{Bytes, Utf};
+use doc_values::{Bytes, Documents, Utf};
 use sql_eval::SelectPlan;
 
 /// What a text comes to before any store is looked at.

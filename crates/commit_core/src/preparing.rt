@@ -6,7 +6,6 @@ ghost use Rattle.type_rules.specs.Written.{IsWritten};
 ghost use Rattle.commit_core.specs.Plan.{plan_of, plan_in, load_plan};
 ghost use Rattle.commit_core.specs.Planned.{StandsFor};
 
-use crate::documents::Documents;
 use crate::lines::{json_line, syntax_line, type_line};
 use crate::planned::Planned;
 use crate::prepared::Prepared;
@@ -58,7 +57,7 @@ fn plan_load(alloc: Global, collection: Utf, json: &str) -> Result<Planned, Allo
     match read_docs(alloc, json) {
         Ok(documents) => Ok(Planned::Write {
             collection,
-            documents: Documents::from_vec(documents),
+            documents,
         }),
         Err(LoadFault::Json(number)) => Ok(Planned::Refused(json_line(alloc, number)?)),
         Err(LoadFault::Memory) => Err(AllocError),

@@ -1,7 +1,6 @@
 ghost use Rattle.std.specs.Prelude.{◌≡◌, [], List, length, map, IfOk, OnOk, OnErr, IsSome, None, false};
 
 use crate::collections::Collections;
-use crate::documents::Documents;
 use crate::entry::Entry;
 use crate::lines::{full_line, ok_line};
 use crate::load_refusal::LoadRefusal;
@@ -11,7 +10,7 @@ use crate::prepared_sort::PreparedSort;
 use crate::reading::Reading;
 use crate::reply::Reply;
 use crate::state_laws::{loads_are_light, states_keep_the_rules};
-use doc_values::{Bytes, Utf, documents_are_maps};
+use doc_values::{Bytes, Documents, Utf, documents_are_maps};
 use row_columns::TableRows;
 use sql_eval::SelectPlan;
 use std::alloc::{AllocError, Global};

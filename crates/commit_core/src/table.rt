@@ -1,23 +1,24 @@
 ghost use Rattle.std.specs.Prelude.{◌≡◌, ◌≤◌, true, false, Err, All, map, IfOk, OnOk, OnErr};
 ghost use Rattle.doc_flatten.specs.Documents.{IsWithinLimits};
 
-use crate::documents::Documents;
 use crate::load_refusal::LoadRefusal;
 use crate::loading::load;
 use crate::row_reading::{paths, rows_along};
 use attr_catalog::Catalog;
-use doc_values::{ColRef, Utf};
+use doc_values::{ColRef, Documents, Utf};
 use document_records::{Record, records_are_their_documents};
 use row_columns::TableRows;
 use std::alloc::{AllocError, Global};
 use std::marker::Model;
 
-/// One collection: its name, its attributes and a record for each document.
+/// One collection: its name, its attributes and a record for each document. Beside them stands which attribute followed
+/// which one in the documents that were loaded last, at the number of the one before and 1.
 #[derive(Drop)]
 pub(crate) struct Table {
     name: Utf,
     catalog: Catalog,
     records: Vec<Record>,
+    followers: Vec<u32>,
 }
 
 impl Model for Table {
@@ -46,6 +47,7 @@ impl Table {
             name: Utf::of(alloc, name)?,
             catalog: Catalog::new(alloc),
             records: Vec::new(alloc),
+            followers: Vec::new(alloc),
         })
     }
 
@@ -65,7 +67,12 @@ impl Table {
         ensures full { result ≡ Err LoadRefusal.Full → is_beyond (with_documents documents.now self.old) ≡ true }
         ensures kept { OnErr result (self.new ≡ self.old) }
     {
-        load(&mut self.catalog, &mut self.records, documents)
+        load(
+            &mut self.catalog,
+            &mut self.records,
+            &mut self.followers,
+            documents,
+        )
     }
 
     /// The row of each document: a value, or NULL, for each column, and the document where whole ones are asked for.

@@ -11,10 +11,18 @@ use Rattle.doc_flatten.specs.Fields.{members_fields, with_all_fields}
 abbrev pub document_of_members : Members → Fields
 document_of_members ms = with_all_fields [] (members_fields [] ms)
 
--- An object is admitted as a document: nested at most 64 deep, with integers, keys and paths that may be, and with at most 4,096 fields.
+-- How many fields a document may have.
+abbrev pub most_fields : ℕ
+most_fields = 4096
+
+-- How many levels of arrays and objects a document may have, itself among them.
+abbrev pub most_levels : ℕ
+most_levels = 64
+
+-- An object is admitted as a document: neither nested too deep nor with too many fields, and with integers, keys and paths that may be.
 abbrev pub is_admitted : Members → Bool
 is_admitted ms =
-    nat_le (depth (object ms)) 64 && has_integers (object ms) && has_paths [] (object ms) && nat_le (length (document_of_members ms)) 4096
+    nat_le (depth (object ms)) most_levels && has_integers (object ms) && has_paths [] (object ms) && nat_le (length (document_of_members ms)) most_fields
 
 -- The document that a tree is, where it is an admitted object.
 abbrev pub document_of : Data → Option Fields
@@ -63,6 +71,6 @@ documents_or_unread (Some d) = documents_in d
 abbrev pub documents_of : List ℕ → Result (List Fields) ℕ
 documents_of text = documents_or_unread (read text)
 
--- A document within the limits: names ascending, numbers in 64 bits, and at most 4,096 fields.
+-- A document within the limits: names ascending, numbers in 64 bits, and no more fields than there may be.
 abbrev pub IsWithinLimits : Fields → Type 0
-IsWithinLimits doc = IsDocument doc × (length doc ≤ 4096)
+IsWithinLimits doc = IsDocument doc × (length doc ≤ most_fields)

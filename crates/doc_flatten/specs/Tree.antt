@@ -1,11 +1,12 @@
 -- Which JSON trees may be documents: their numbers, their keys and their paths.
-use Rattle.std.specs.Prelude.{ℕ, ℤ, pos, List, [], ◌∷◌, ◌++◌, Bool, true, ◌&&◌, ◌==◌, not, nat_lt, nat_le, int_le, negsuc, length, Option, Some, None, is_some, if◌then◌else◌}
+use Rattle.std.specs.Prelude.{ℕ, ℤ, pos, List, [], ◌∷◌, ◌++◌, Bool, true, ◌&&◌, ◌==◌, not, nat_lt, nat_le, int_le, length, Option, Some, None, is_some, if◌then◌else◌}
 use Rattle.std.specs.List.{list_all}
 use Rattle.serde_json.specs.Data.{Num, unsigned, negative, float, Data, null, boolean, number, string, array, object, Items, no_items, item, Members, no_members, member}
+use Rattle.doc_values.specs.Value.{least_number, greatest_number}
 
 -- An integer, where it is one of 64 bits with a sign.
 abbrev pub in_64_bits : ℤ → Option ℤ
-in_64_bits z = if int_le (negsuc 9223372036854775807) z && int_le z (pos 9223372036854775807) then Some z else None
+in_64_bits z = if int_le least_number z && int_le z greatest_number then Some z else None
 
 -- What a JSON number is as a signed integer of 64 bits, where it is one.
 abbrev pub int_of : Num → Option ℤ
@@ -44,9 +45,13 @@ abbrev pub dotted : List ℕ → List ℕ → List ℕ
 dotted [] key = key
 dotted (c ∷ outer) key = (c ∷ outer) ++ (46 ∷ key)
 
--- A member of the object at this path may have this key, and its dotted path has at most 255 bytes.
+-- How many bytes a dotted path may have.
+abbrev pub most_path_bytes : ℕ
+most_path_bytes = 255
+
+-- A member of the object at this path may have this key, and its dotted path is not too long.
 abbrev pub is_member : List ℕ → List ℕ → Bool
-is_member path key = is_key key && nat_le (length (dotted path key)) 255
+is_member path key = is_key key && nat_le (length (dotted path key)) most_path_bytes
 
 -- Every member that stands in no array has a key and a path that may be.
 abbrev mutual

@@ -4,6 +4,7 @@ use Rattle.serde_json.specs.Data.{Data, Items, Members, depth, items_depth, memb
 use Rattle.doc_values.specs.Doc.{Fields}
 use Rattle.doc_flatten.specs.Tree.{has_integers, items_have_integers, members_have_integers, has_paths, members_have_paths}
 use Rattle.doc_flatten.specs.Fields.{fields_under, members_fields, with_all_fields}
+use Rattle.doc_flatten.specs.Documents.{most_fields}
 
 -- The numbers of the tree may be, and it nests no deeper than the levels.
 abbrev pub is_plain : ℕ → Data → Bool
@@ -19,9 +20,9 @@ members_are_plain levels ms = nat_le (members_depth ms) levels && members_have_i
 
 -- The tree may stand at the path in a document that has these fields so far.
 abbrev pub fits_in : ℕ → List ℕ → Fields → Data → Bool
-fits_in levels path doc d = is_plain levels d && has_paths path d && nat_le (length (with_all_fields doc (fields_under path d))) 4096
+fits_in levels path doc d = is_plain levels d && has_paths path d && nat_le (length (with_all_fields doc (fields_under path d))) most_fields
 
 -- The same of some members of one object.
 abbrev pub members_fit_in : ℕ → List ℕ → Fields → Members → Bool
 members_fit_in levels path doc ms =
-    members_are_plain levels ms && members_have_paths path ms && nat_le (length (with_all_fields doc (members_fields path ms))) 4096
+    members_are_plain levels ms && members_have_paths path ms && nat_le (length (with_all_fields doc (members_fields path ms))) most_fields

@@ -1,7 +1,8 @@
-ghost use Rattle.std.specs.Prelude.{◌≡◌, ◌≤◌, true, false, IfOk, OnOk, Err, Some, None, length, nat_le};
+ghost use Rattle.std.specs.Prelude.{◌≡◌, ◌≤◌, true, false, OnOk, Err, Some, None, length, nat_le};
 ghost use Rattle.serde_json.specs.View.{view, members_view};
 ghost use Rattle.doc_values.specs.Doc.{with_field};
 ghost use Rattle.doc_values.specs.Value.{IsStorable};
+ghost use Rattle.doc_values.specs.Lent.{owned};
 ghost use Rattle.doc_flatten.specs.Fields.{fields_under, members_fields, with_all_fields};
 ghost use Rattle.doc_flatten.specs.Documents.{document_of};
 ghost use Rattle.doc_flatten.specs.Walk.{fits_in, members_fit_in};
@@ -9,7 +10,7 @@ ghost use Rattle.doc_flatten.specs.Walk.{fits_in, members_fit_in};
 use crate::flatten_fault::FlattenFault;
 use crate::path::Path;
 use crate::plain::compact_text;
-use doc_values::{Doc, Utf, Value};
+use doc_values::{PackedDoc, ValueRef};
 use serde_json::{Map, Value as Json};
 use std::alloc::Global;
 
@@ -17,46 +18,50 @@ const MAX_DEPTH: u8 = 64;
 
 const MAX_FIELDS: usize = 4096;
 
-// The document that a tree is.
-pub(crate) fn document(alloc: Global, tree: &Json) -> Result<Doc, FlattenFault>
-    ensures ok { IfOk result (λ doc. document_of (view tree.now) ≡ Some doc) }
-    ensures excluded { result ≡ Err FlattenFault.Excluded → document_of (view tree.now) ≡ None }
-{
-    let Some(members) = tree.as_object() else {
-        return Err(FlattenFault::Excluded);
-    };
-    let mut flattening = Flattening {
-        alloc,
-        path: Path::new(alloc),
-        doc: Doc::new(alloc),
-    };
-    flattening.add_members(members, MAX_DEPTH - 1)?;
-    let Flattening { doc, .. } = flattening;
-    Ok(doc)
-}
-
-// A document as it grows, and the path of the member that the walk stands at.
+// A document as it grows, and the path of the member that the walk stands at. One serves for many documents.
 #[derive(Drop)]
-struct Flattening {
+pub(crate) struct Flattening {
     alloc: Global,
     path: Path,
-    doc: Doc,
+    pub doc: PackedDoc,
 }
 
 impl Flattening {
+    pub(crate) fn new(alloc: Global) -> Flattening {
+        Flattening {
+            alloc,
+            path: Path::new(alloc),
+            doc: PackedDoc::new(alloc),
+        }
+    }
+
+    // Reads the document that a tree is, in place of the one before.
+    pub(crate) fn read(&mut self, tree: &Json) -> Result<(), FlattenFault>
+        ensures ok { OnOk result (document_of (view tree.now) ≡ Some self.new.doc) }
+        ensures excluded { result ≡ Err FlattenFault.Excluded
+            → document_of (view tree.now) ≡ None }
+    {
+        let Some(members) = tree.as_object() else {
+            return Err(FlattenFault::Excluded);
+        };
+        self.path.clear();
+        self.doc.clear();
+        self.add_members(members, MAX_DEPTH - 1)?;
+        Ok(())
+    }
+
     // Puts the field of the member in.
-    fn add(&mut self, value: Value) -> Result<(), FlattenFault>
-        requires { IsStorable value }
-        ensures ok { OnOk result (self.new.doc ≡ with_field self.old.doc self.old.path value) }
+    fn add(&mut self, value: ValueRef<'_>) -> Result<(), FlattenFault>
+        requires { IsStorable (owned value) }
+        ensures ok { OnOk result (self.new.doc ≡ with_field self.old.doc self.old.path (owned value.entry)) }
         ensures few { OnOk result (length self.new.doc ≤ 4096) }
         ensures admitted { OnOk result
-            (nat_le (length (with_field self.old.doc self.old.path value)) 4096 ≡ true) }
+            (nat_le (length (with_field self.old.doc self.old.path (owned value.entry))) 4096 ≡ true) }
         ensures stays { self.new.path ≡ self.old.path }
         ensures excluded { result ≡ Err FlattenFault.Excluded
-            → nat_le (length (with_field self.old.doc self.old.path value)) 4096 ≡ false }
+            → nat_le (length (with_field self.old.doc self.old.path (owned value.entry))) 4096 ≡ false }
     {
-        let name = Utf::of(self.alloc, self.path.text())?;
-        self.doc.set(name, value)?;
+        self.doc.set(self.path.text(), value)?;
         if self.doc.len() > MAX_FIELDS {
             return Err(FlattenFault::Excluded);
         }
@@ -78,21 +83,18 @@ impl Flattening {
     {
         match tree {
             Json::Null => Ok(()),
-            Json::Bool(truth) => self.add(Value::Bool(*truth)),
+            Json::Bool(truth) => self.add(ValueRef::Bool(*truth)),
             Json::Number(number) => {
                 let number = number.as_i64().ok_or(FlattenFault::Excluded)?;
-                self.add(Value::Int(i128::from(number)))
+                self.add(ValueRef::Int(i128::from(number)))
             }
-            Json::String(text) => {
-                let text = Utf::of(self.alloc, text.as_str())?;
-                self.add(Value::Text(text))
-            }
+            Json::String(text) => self.add(ValueRef::Text(text.as_str())),
             Json::Array(_) => {
                 let text = compact_text(self.alloc, tree, levels)?;
-                self.add(Value::Array(text))
+                self.add(ValueRef::Array(text.text()))
             }
             Json::Object(_) if levels == 0 => Err(FlattenFault::Excluded),
-            Json::Object(members) if members.is_empty() => self.add(Value::Object),
+            Json::Object(members) if members.is_empty() => self.add(ValueRef::Object),
             Json::Object(members) => self.add_members(members, levels - 1),
         }
     }

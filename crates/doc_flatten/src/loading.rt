@@ -4,17 +4,17 @@ ghost use Rattle.serde_json.specs.View.{view, items_view};
 ghost use Rattle.doc_flatten.specs.Documents.{is_object, documents_of, documents_in, documents_from, IsWithinLimits};
 
 use crate::flatten_fault::FlattenFault;
-use crate::flattening::document;
+use crate::flattening::Flattening;
 use crate::load_fault::LoadFault;
-use doc_values::Doc;
+use doc_values::Documents;
 use serde_json::Value as Json;
 use std::alloc::Global;
 use std::slice;
 
 /// Reads the documents of a JSON text: one object (RFC 8259), or an array of objects.
-pub fn read_docs(alloc: Global, text: &str) -> Result<Vec<Doc>, LoadFault>
-    ensures ok { IfOk result (λ docs. documents_of text.now ≡ Ok docs.items) }
-    ensures kept { IfOk result (λ docs. All IsWithinLimits docs.items) }
+pub fn read_docs(alloc: Global, text: &str) -> Result<Documents, LoadFault>
+    ensures ok { IfOk result (λ docs. documents_of text.now ≡ Ok docs) }
+    ensures kept { IfOk result (λ docs. All IsWithinLimits docs) }
     ensures json { IfErr result (λ e. (d : ℕ) → e ≡ LoadFault.Json d
         → documents_of text.now ≡ Err d) }
 {
@@ -26,8 +26,8 @@ pub fn read_docs(alloc: Global, text: &str) -> Result<Vec<Doc>, LoadFault>
 }
 
 // The documents of a tree.
-fn documents_in(alloc: Global, tree: &Json) -> Result<Vec<Doc>, LoadFault>
-    ensures ok { IfOk result (λ docs. documents_in (view tree.now) ≡ Ok docs.items) }
+fn documents_in(alloc: Global, tree: &Json) -> Result<Documents, LoadFault>
+    ensures ok { IfOk result (λ docs. documents_in (view tree.now) ≡ Ok docs) }
     ensures json { IfErr result (λ e. (d : ℕ) → e ≡ LoadFault.Json d
         → documents_in (view tree.now) ≡ Err d) }
 {
@@ -50,15 +50,16 @@ fn are_objects(trees: &[Json]) -> bool
 }
 
 // The documents that trees are.
-fn documents(alloc: Global, trees: &[Json]) -> Result<Vec<Doc>, LoadFault>
-    ensures ok { IfOk result (λ docs. documents_from 1 (items_view trees.now) ≡ Ok docs.items) }
+fn documents(alloc: Global, trees: &[Json]) -> Result<Documents, LoadFault>
+    ensures ok { IfOk result (λ docs. documents_from 1 (items_view trees.now) ≡ Ok docs) }
     ensures json { IfErr result (λ e. (d : ℕ) → e ≡ LoadFault.Json d
         → documents_from 1 (items_view trees.now) ≡ Err d) }
 {
-    let mut docs = Vec::with_capacity(alloc, trees.len())?;
+    let mut docs = Documents::new(alloc);
+    let mut flattening = Flattening::new(alloc);
     for (before, tree) in trees.iter().enumerate() {
-        match document(alloc, tree) {
-            Ok(doc) => docs.push(doc)?,
+        match flattening.read(tree) {
+            Ok(()) => docs.push(&flattening.doc)?,
             Err(FlattenFault::Excluded) => return Err(LoadFault::Json(before as u64 + 1)),
             Err(FlattenFault::Memory) => return Err(LoadFault::Memory),
         }

@@ -46,6 +46,13 @@ impl Path {
         self.text.as_str()
     }
 
+    // Goes back to the document itself.
+    pub(crate) fn clear(&mut self)
+        ensures exact { self.new ≡ [] }
+    {
+        self.text.clear();
+    }
+
     // Goes on to a member of the object that it stands at.
     pub(crate) fn enter(&mut self, key: &str) -> Result<(), FlattenFault>
         ensures ok { OnOk result (self.new ≡ dotted self.old key.now) }

@@ -4,3 +4,6 @@ pub mod Place
 pub mod Laws
 pub mod Order
 pub mod Weight
+pub mod Lent
+pub mod Spans
+pub mod Packed

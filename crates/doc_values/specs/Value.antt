@@ -1,5 +1,5 @@
 -- What a value is, and the text that stands for it in an answer.
-use Rattle.std.specs.Prelude.{ℕ, pos, negsuc, ◌≤◌, ◌≤ℤ◌, List, Bool, true, false, Option, Some, None, codes}
+use Rattle.std.specs.Prelude.{ℕ, ℤ, pos, negsuc, ◌≤◌, ◌≤ℤ◌, List, Bool, true, false, Option, Some, None, codes}
 use Rattle.std.specs.List.{All}
 use Rattle.std.specs.Fmt.{signed_decimal}
 use Rattle.json.specs.Print.{quoted}
@@ -14,10 +14,18 @@ kind_of (value.TheVariants.Text s) = kind.TheVariants.Text
 kind_of (value.TheVariants.Array s) = kind.TheVariants.Array
 kind_of value.TheVariants.Object = kind.TheVariants.Object
 
+-- The least signed integer of 64 bits.
+abbrev pub least_number : ℤ
+least_number = negsuc 9223372036854775807
+
+-- The greatest signed integer of 64 bits.
+abbrev pub greatest_number : ℤ
+greatest_number = pos 9223372036854775807
+
 -- A document may hold the value: a number has to be a signed integer of 64 bits.
 abbrev pub IsStorable : value.Value → Type 0
 IsStorable (value.TheVariants.Bool b) = Unit {0}
-IsStorable (value.TheVariants.Int n) = (negsuc 9223372036854775807 ≤ℤ n) × (n ≤ℤ pos 9223372036854775807)
+IsStorable (value.TheVariants.Int n) = (least_number ≤ℤ n) × (n ≤ℤ greatest_number)
 IsStorable (value.TheVariants.Text s) = Unit {0}
 IsStorable (value.TheVariants.Array s) = Unit {0}
 IsStorable value.TheVariants.Object = Unit {0}

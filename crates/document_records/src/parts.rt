@@ -1,4 +1,5 @@
 ghost use Rattle.std.specs.Prelude.{◌≡◌, ◌+◌, ◌≤◌, [], ◌∷◌, ◌++◌, List, length, IfOk, OnOk, OnErr};
+ghost use Rattle.doc_values.specs.Lent.{owned};
 ghost use Rattle.doc_values.specs.Value.{IsStorable};
 ghost use Rattle.reservoir_record.specs.Spelling.{AreFields};
 ghost use Rattle.reservoir_record.specs.declared.fields.Field.{Field};
@@ -7,7 +8,7 @@ ghost use Rattle.document_records.specs.Limits.{most_weight};
 
 use crate::record::Record;
 use crate::stored_value::push_value;
-use doc_values::Value;
+use doc_values::ValueRef;
 use reservoir_record::parts_of_one_more;
 use std::alloc::{AllocError, Global};
 
@@ -43,10 +44,10 @@ impl Parts {
     }
 
     /// Puts a field behind the others.
-    pub fn push(&mut self, id: u32, value: &Value) -> Result<(), AllocError>
-        requires storable { IsStorable value.now }
-        requires room { length self.old.values.items + length (bytes_of value.now) ≤ most_weight }
-        ensures ok { OnOk result ((fields : List Field) → AreIn fields self.old → AreIn (fields ++ record { id = id; bytes = bytes_of value.now } ∷ []) self.new) }
+    pub fn push(&mut self, id: u32, value: ValueRef<'_>) -> Result<(), AllocError>
+        requires storable { IsStorable (owned value) }
+        requires room { length self.old.values.items + length (bytes_of (owned value)) ≤ most_weight }
+        ensures ok { OnOk result ((fields : List Field) → AreIn fields self.old → AreIn (fields ++ record { id = id; bytes = bytes_of (owned value.entry) } ∷ []) self.new) }
         ensures memory { OnErr result ((self.new.ids.items ≡ self.old.ids.items) × (self.new.ends.items ≡ self.old.ends.items) × (self.new.values.items ≡ self.old.values.items)) }
     {
         parts_of_one_more();

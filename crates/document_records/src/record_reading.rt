@@ -1,12 +1,11 @@
 ghost use Rattle.std.specs.Prelude.{◌≡◌, option_map};
-ghost use Rattle.row_columns.specs.Lent.{owned};
+ghost use Rattle.doc_values.specs.Lent.{owned};
 ghost use Rattle.document_records.specs.ReadBack.{value_of_kind as value_of_one, value_under as value_found, IsReadable, CanBeRead};
 
 use crate::record::Record;
 use crate::stored_value::read_lent;
 use attr_catalog::Kinds;
-use doc_values::{AttrId, Kind};
-use row_columns::ValueRef;
+use doc_values::{AttrId, Kind, ValueRef};
 
 /// The value that a record has under a name, of whichever kind it is; lent from its bytes.
 pub fn value_under<'a>(kinds: &Kinds, stored: &'a Record) -> Option<ValueRef<'a>>

@@ -2,54 +2,53 @@ ghost use Rattle.std.specs.Prelude.{◌≡◌, ◌++◌, IfOk, OnOk, OnErr, IsTr
 ghost use Rattle.std.specs.Int.{w64, cast_signed, from_le_bytes};
 ghost use Rattle.std.specs.Str.{is_utf8};
 ghost use Rattle.doc_values.specs.Value.{kind_of, IsStorable};
-ghost use Rattle.row_columns.specs.Lent.{owned};
+ghost use Rattle.doc_values.specs.Lent.{owned};
 ghost use Rattle.document_records.specs.StoredValue.{bytes_of, value_in, AreReadable, ReadsBack, AreToldApart};
 
-use doc_values::{Kind, Utf, Value};
-use row_columns::ValueRef;
+use doc_values::{Kind, Utf, Value, ValueRef};
 use std::alloc::{AllocError, Global};
 
 /// Puts the bytes of a value behind those that are there.
-pub fn push_value(bytes: &mut Vec<u8>, value: &Value) -> Result<(), AllocError>
-    requires { IsStorable value.now }
-    ensures ok { OnOk result (bytes.new.items ≡ bytes.old.items ++ bytes_of value.now) }
+pub fn push_value(bytes: &mut Vec<u8>, value: ValueRef<'_>) -> Result<(), AllocError>
+    requires { IsStorable (owned value) }
+    ensures ok { OnOk result (bytes.new.items ≡ bytes.old.items ++ bytes_of (owned value.entry)) }
     ensures memory { OnErr result (bytes.new.items ≡ bytes.old.items) }
 {
     match value {
-        Value::Bool(b) => bytes.push(u8::from(*b))?,
-        Value::Int(n) => bytes.extend_from_slice(&(*n as i64).to_le_bytes())?,
-        Value::Text(text) => bytes.extend_from_slice(text.text().as_bytes())?,
-        Value::Array(array) => bytes.extend_from_slice(array.text().as_bytes())?,
-        Value::Object => {}
+        ValueRef::Bool(b) => bytes.push(u8::from(b))?,
+        ValueRef::Int(n) => bytes.extend_from_slice(&(n as i64).to_le_bytes())?,
+        ValueRef::Text(text) => bytes.extend_from_slice(text.as_bytes())?,
+        ValueRef::Array(array) => bytes.extend_from_slice(array.as_bytes())?,
+        ValueRef::Object => {}
     }
     Ok(())
 }
 
 /// The kind of a value, at which its bytes can be read.
-pub fn kind_stored(value: &Value) -> Kind
-    ensures exact { result ≡ kind_of value.now }
-    ensures readable { AreReadable result (bytes_of value.now) }
+pub fn kind_stored(value: ValueRef<'_>) -> Kind
+    ensures exact { result ≡ kind_of (owned value.entry) }
+    ensures readable { AreReadable result (bytes_of (owned value.entry)) }
 {
     match value {
-        Value::Bool(_) => Kind::Bool,
-        Value::Int(_) => Kind::Int,
-        Value::Text(text) => {
+        ValueRef::Bool(_) => Kind::Bool,
+        ValueRef::Int(_) => Kind::Int,
+        ValueRef::Text(text) => {
             is_text(text);
             Kind::Text
         }
-        Value::Array(text) => {
+        ValueRef::Array(text) => {
             is_text(text);
             Kind::Array
         }
-        Value::Object => Kind::Object,
+        ValueRef::Object => Kind::Object,
     }
 }
 
 // What a text holds is UTF-8.
-fn is_text(text: &Utf)
+fn is_text(text: &str)
     ensures exact { IsTrue (is_utf8 text.now) }
 {
-    let _text = text.text();
+    let _len = text.len();
 }
 
 /// The value of a kind that bytes stand for.

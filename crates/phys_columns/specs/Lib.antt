@@ -1,5 +1,4 @@
 pub mod Cells
-pub mod Lent
 pub mod Filtered
 pub mod Pages
 pub mod Seen

@@ -5,9 +5,9 @@ use Rattle.doc_values.specs.declared.value.Value.{Value}
 use Rattle.std.specs.Borrow.{Bor}
 use Rattle.phys_columns.specs.declared.page.Page.{Page}
 use Rattle.phys_columns.specs.declared.walk.Walk.{Walk}
-use Rattle.phys_columns.specs.declared.value_ref.ValueRef.{ValueRef}
+use Rattle.doc_values.specs.declared.value_ref.ValueRef.{ValueRef}
 use Rattle.phys_columns.specs.Pages.{value_at}
-use Rattle.phys_columns.specs.Lent.{owned}
+use Rattle.doc_values.specs.Lent.{owned}
 
 -- The values of a page from a place on, so many places far, each with its version.
 unfoldable pub values_in : Page → ℕ → ℕ → List (ℕ × Value)

@@ -3,7 +3,7 @@ ghost use Rattle.std.specs.Option.{ForSome};
 ghost use Rattle.doc_values.specs.declared.kind.Kind.{Kind as KindOf};
 ghost use Rattle.doc_values.specs.declared.value.Value.{Value as ValueOf};
 ghost use Rattle.doc_values.specs.Value.{kind_of, IsStorable};
-ghost use Rattle.phys_columns.specs.Lent.{owned};
+ghost use Rattle.doc_values.specs.Lent.{owned};
 ghost use Rattle.phys_columns.specs.Filtered.{is_bit, is_met};
 ghost use Rattle.phys_columns.specs.Pages.{IsPage, AreSlots, Holds};
 ghost use Rattle.phys_columns.specs.Inside.{ArePages, FitsAt, IsOfKind, page_at, column_value, most_pages};
@@ -11,8 +11,7 @@ ghost use Rattle.phys_columns.specs.Inside.{ArePages, FitsAt, IsOfKind, page_at,
 use crate::compare_int::CompareInt;
 use crate::mask::Mask;
 use crate::page::Page;
-use crate::value_ref::ValueRef;
-use doc_values::{Kind, Value};
+use doc_values::{Kind, Value, ValueRef};
 use std::alloc::{AllocError, Global};
 
 /// The pages of an attribute, in the order of their numbers. A page without values is here only where room is reserved.

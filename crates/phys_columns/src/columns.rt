@@ -1,16 +1,15 @@
 ghost use Rattle.std.specs.Prelude.{◌≡◌, ◌≢◌, ◌<◌, ◌≤◌, ◌+◌, ◌*◌, ◌/◌, ℕ, Some, None, IfSome, IfOk, OnOk, OnErr, true, false, is_some, length, option_map};
 ghost use Rattle.std.specs.FinMap as map;
 ghost use Rattle.doc_values.specs.Value.{kind_of, IsStorable};
-ghost use Rattle.phys_columns.specs.Lent.{owned};
+ghost use Rattle.doc_values.specs.Lent.{owned};
 ghost use Rattle.phys_columns.specs.Inside.{pages_of, IsRoom};
 
 use crate::column::Column;
 use crate::compare_int::CompareInt;
 use crate::mask::Mask;
 use crate::spare::Spare;
-use crate::value_ref::ValueRef;
 use crate::walk::Walk;
-use doc_values::{AttrId, Kind, Value};
+use doc_values::{AttrId, Kind, Value, ValueRef};
 use std::alloc::{AllocError, Global};
 use std::marker::Model;
 

@@ -15,13 +15,12 @@ mod mask;
 mod page;
 mod slots;
 mod spare;
-mod value_ref;
 mod walk;
 
 pub use columns::Columns;
 pub use compare_int::CompareInt;
+pub use doc_values::ValueRef;
 pub use laws::cells_are_a_map;
 pub use mask::Mask;
 pub use spare::Spare;
-pub use value_ref::ValueRef;
 pub use walk::Walk;

@@ -1,7 +1,7 @@
 ghost use Rattle.std.specs.Prelude.{◌≡◌, ◌<◌, ◌≢◌, ◌+◌, ◌*◌, ◌&&◌, ℕ, pos, length, slice_index_or, Some, None, true, false, IfOk, is_some, option_map};
 ghost use Rattle.doc_values.specs.declared.value.Value.TheVariants.{Int as IntOf};
 ghost use Rattle.doc_values.specs.Value.{kind_of, IsStorable};
-ghost use Rattle.phys_columns.specs.Lent.{owned};
+ghost use Rattle.doc_values.specs.Lent.{owned};
 ghost use Rattle.phys_columns.specs.Filtered.{is_bit, is_met, admits_number};
 ghost use Rattle.phys_columns.specs.Pages.{kind_in, value_at, is_marked, page_len, IsPage, Holds};
 
@@ -10,8 +10,7 @@ use crate::comparing::met;
 use crate::marks::Marks;
 use crate::mask::Mask;
 use crate::slots::Slots;
-use crate::value_ref::ValueRef;
-use doc_values::{Kind, Value};
+use doc_values::{Kind, Value, ValueRef};
 use std::alloc::{AllocError, Global};
 
 /// The values of one attribute in 1,024 versions: a mark for each version that has one, and the values by place.

@@ -1,12 +1,11 @@
 ghost use Rattle.std.specs.Prelude.{◌≡◌, ◌<◌, ◌≢◌, ℕ, List, [], pos, IfOk, length, slice_index_or};
 ghost use Rattle.std.specs.List.{All};
 ghost use Rattle.doc_values.specs.Value.{kind_of, IsStorable};
-ghost use Rattle.phys_columns.specs.Lent.{owned};
+ghost use Rattle.doc_values.specs.Lent.{owned};
 ghost use Rattle.phys_columns.specs.Pages.{AreSlots, kind_in, value_in, text_in, page_len};
 
 use crate::marks::Marks;
-use crate::value_ref::ValueRef;
-use doc_values::{Kind, Utf, Value};
+use doc_values::{Kind, Utf, Value, ValueRef};
 use std::alloc::{AllocError, Global};
 use std::mem;
 

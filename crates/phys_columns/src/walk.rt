@@ -4,7 +4,7 @@ ghost use Rattle.phys_columns.specs.Pages.{AreSlots};
 ghost use Rattle.phys_columns.specs.Inside.{most_pages};
 
 use crate::page::Page;
-use crate::value_ref::ValueRef;
+use doc_values::ValueRef;
 
 /// The values of a page in the order of their versions, each with its version.
 #[derive(Drop)]

@@ -1,23 +1,13 @@
 -- How the values of a column lie in it: a cell each, texts one behind another, and the numbers that need more than 64 bits by themselves.
-use Rattle.std.specs.Prelude.{◌≡◌, ℕ, ◌<◌, ◌≤◌, ℤ, pos, List, Option, Some, None, length, slice_range, slice_index_or, IsCharBoundary}
+use Rattle.std.specs.Prelude.{◌≡◌, ℕ, ◌<◌, ℤ, pos, List, Option, Some, None, length, slice_index_or}
 use Rattle.doc_values.specs.declared.value.Value as value
-use Rattle.row_columns.specs.declared.span.Span.{Span}
+use Rattle.doc_values.specs.Spans.{text_at, IsSpan}
 use Rattle.row_columns.specs.declared.cell.Cell.{Cell}
 use Rattle.row_columns.specs.declared.cell.Cell.TheVariants as cell
 
 -- The values of a column, one for each row; none is NULL.
 abbrev pub Values : Type 0
 Values = List (Option value.Value)
-
--- The bytes of a span of a text.
-abbrev pub text_at : List ℕ → Span → List ℕ
-text_at texts span = slice_range texts span.start span.end
-
--- A span of a text that is a text itself.
-pub record IsSpan (texts : List ℕ) (span : Span) : Type 0 where
-  pub ordered : span.start ≤ span.end
-  pub begins : IsCharBoundary texts span.start
-  pub ends : IsCharBoundary texts span.end
 
 -- The value of a cell over the texts and the wide numbers of its column.
 abbrev pub cell_in : List ℕ → List ℤ → Cell → Option value.Value
@@ -38,10 +28,6 @@ IsCellIn texts wides (cell.Wide place) = place < length wides
 IsCellIn texts wides (cell.Text span) = IsSpan texts span
 IsCellIn texts wides (cell.Array span) = IsSpan texts span
 IsCellIn texts wides cell.Object = Unit {0}
-
--- Each span of a text is one of another text, with the same bytes.
-abbrev pub KeepsSpans : List ℕ → List ℕ → Type 0
-KeepsSpans old new = (span : Span) → IsSpan old span → IsSpan new span × (text_at new span ≡ text_at old span)
 
 -- Each cell over texts and wide numbers is one over others, with the same value.
 abbrev pub KeepsCells : List ℕ → List ℤ → List ℕ → List ℤ → Type 0

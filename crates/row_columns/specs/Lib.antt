@@ -1,5 +1,5 @@
 pub mod Contents
 pub mod Sides
-pub mod Lent
+pub use Rattle.doc_values.specs.Lent
 pub mod Column
 pub mod Placed

@@ -1,4 +1,4 @@
-use crate::span::Span;
+use doc_values::Span;
 
 /// A value of a column, or NULL.
 #[derive(Clone, Copy)]

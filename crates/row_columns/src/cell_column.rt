@@ -1,10 +1,10 @@
 ghost use Rattle.std.specs.Prelude.{◌≡◌, ◌++◌, ◌∷◌, [], OnOk, OnErr, option_map};
-ghost use Rattle.row_columns.specs.Lent.{owned};
+ghost use Rattle.doc_values.specs.Lent.{owned};
 
 use crate::cell::Cell;
 use crate::filling::cell_for;
 use crate::lending::lent;
-use crate::value_ref::ValueRef;
+use doc_values::ValueRef;
 use std::alloc::{AllocError, Global};
 use std::marker::Model;
 

@@ -1,15 +1,11 @@
 ghost use Rattle.std.specs.Prelude.{◌≡◌, ℕ, List, [], ◌∷◌, ◌++◌, Some, IfOk, OnErr, length, option_map, string_bytes};
 ghost use Rattle.doc_values.specs.declared.value.Value.TheVariants as value;
-ghost use Rattle.row_columns.specs.Lent.{owned};
-ghost use Rattle.row_columns.specs.Column.{text_at, IsSpan, cell_in, IsCellIn, KeepsSpans, KeepsCells};
+ghost use Rattle.doc_values.specs.Lent.{owned};
+ghost use Rattle.row_columns.specs.Column.{cell_in, IsCellIn, KeepsCells};
 
 use crate::cell::Cell;
-use crate::span::Span;
-use crate::value_ref::ValueRef;
+use doc_values::{ValueRef, append_text};
 use std::alloc::AllocError;
-
-/// The most bytes of text that a column holds.
-const MOST_BYTES: usize = 4294967295;
 
 // The cell of a value, whose text or wide number is put behind those of the column.
 pub(crate) fn cell_for(
@@ -24,8 +20,8 @@ pub(crate) fn cell_for(
         None => Ok(Cell::Null),
         Some(ValueRef::Bool(b)) => Ok(Cell::Bool(b)),
         Some(ValueRef::Int(n)) => Ok(number_cell(wides, n)?),
-        Some(ValueRef::Text(text)) => Ok(Cell::Text(append(texts, text)?)),
-        Some(ValueRef::Array(text)) => Ok(Cell::Array(append(texts, text)?)),
+        Some(ValueRef::Text(text)) => Ok(Cell::Text(append_text(texts, text)?)),
+        Some(ValueRef::Array(text)) => Ok(Cell::Array(append_text(texts, text)?)),
         Some(ValueRef::Object) => Ok(Cell::Object),
     }
 }
@@ -51,21 +47,4 @@ fn append_number(wides: &mut Vec<i128>, number: i128) -> Result<u32, AllocError>
     };
     wides.push(number)?;
     Ok(place)
-}
-
-// Puts a text behind the others.
-fn append(texts: &mut String, text: &str) -> Result<Span, AllocError>
-    ensures ok { IfOk result (λ span. IsSpan (string_bytes texts.new) span × (text_at (string_bytes texts.new) span ≡ text.now)) }
-    ensures kept { KeepsSpans (string_bytes texts.old) (string_bytes texts.new) }
-{
-    let start = texts.as_str().len();
-    if start > MOST_BYTES || text.len() > MOST_BYTES - start {
-        return Err(AllocError);
-    }
-    texts.push_str(text)?;
-    let end = texts.as_str().len();
-    Ok(Span {
-        start: start as u32,
-        end: end as u32,
-    })
 }

@@ -1,10 +1,9 @@
 ghost use Rattle.std.specs.Prelude.{◌≡◌, option_map};
-ghost use Rattle.row_columns.specs.Lent.{owned};
-ghost use Rattle.row_columns.specs.Column.{text_at, IsSpan, cell_in, IsCellIn};
+ghost use Rattle.doc_values.specs.Lent.{owned};
+ghost use Rattle.row_columns.specs.Column.{cell_in, IsCellIn};
 
 use crate::cell::Cell;
-use crate::span::Span;
-use crate::value_ref::ValueRef;
+use doc_values::{ValueRef, text_in};
 
 // The value of a cell, lent.
 pub(crate) fn lent<'a>(texts: &'a str, wides: &[i128], cell: Cell) -> Option<ValueRef<'a>>
@@ -16,15 +15,8 @@ pub(crate) fn lent<'a>(texts: &'a str, wides: &[i128], cell: Cell) -> Option<Val
         Cell::Bool(b) => Some(ValueRef::Bool(b)),
         Cell::Number(n) => Some(ValueRef::Int(i128::from(n))),
         Cell::Wide(place) => Some(ValueRef::Int(wides[place as usize])),
-        Cell::Text(span) => Some(ValueRef::Text(text(texts, span))),
-        Cell::Array(span) => Some(ValueRef::Array(text(texts, span))),
+        Cell::Text(span) => Some(ValueRef::Text(text_in(texts, span))),
+        Cell::Array(span) => Some(ValueRef::Array(text_in(texts, span))),
         Cell::Object => Some(ValueRef::Object),
     }
-}
-
-fn text(texts: &str, span: Span) -> &str
-    requires { IsSpan texts.now span }
-    ensures exact { result.now ≡ text_at texts.now span }
-{
-    &texts[span.start as usize..span.end as usize]
 }

@@ -11,14 +11,12 @@ mod filling;
 mod lending;
 mod place;
 mod sides;
-mod span;
 mod table_rows;
 mod tuples;
-mod value_ref;
 
 pub use cell_column::CellColumn;
 pub use place::Place;
 pub use sides::Sides;
 pub use table_rows::TableRows;
 pub use tuples::Tuples;
-pub use value_ref::ValueRef;
+pub use doc_values::ValueRef;

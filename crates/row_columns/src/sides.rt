@@ -1,12 +1,11 @@
 ghost use Rattle.std.specs.Prelude.{◌≡◌, option_map, option_copied, option_and_then, slice_get};
-ghost use Rattle.row_columns.specs.Lent.{owned};
+ghost use Rattle.doc_values.specs.Lent.{owned};
 ghost use Rattle.row_columns.specs.Placed.{tuple_at, cell_on};
 ghost use Rattle.row_columns.specs.Sides.{side_at};
 
 use crate::place::Place;
 use crate::table_rows::TableRows;
-use crate::value_ref::ValueRef;
-use doc_values::Doc;
+use doc_values::{Doc, ValueRef};
 use std::marker::Model;
 
 /// A tuple, lent: a row for each table; none on a side that is missing.

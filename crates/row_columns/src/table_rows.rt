@@ -1,10 +1,9 @@
 ghost use Rattle.std.specs.Prelude.{◌≡◌, ◌<◌, length, option_map, option_copied, option_and_then, slice_get};
-ghost use Rattle.row_columns.specs.Lent.{owned};
+ghost use Rattle.doc_values.specs.Lent.{owned};
 ghost use Rattle.row_columns.specs.Placed.{rows_of, value_in, cell_of};
 
 use crate::cell_column::CellColumn;
-use crate::value_ref::ValueRef;
-use doc_values::Doc;
+use doc_values::{Doc, ValueRef};
 use std::alloc::Global;
 use std::marker::Model;
 

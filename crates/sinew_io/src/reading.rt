@@ -50,8 +50,8 @@ fn read_from_blank<S: Source, L: Ledger>(
     read_in_turns(alloc, source, limit, &mut turns)
 }
 
-/// Takes at most one turn a byte, and one more.
-fn read_in_turns<S: Source, L: Ledger>(
+/// Reads likewise, and counts its turns, each of which is one read of the source.
+pub fn read_in_turns<S: Source, L: Ledger>(
     alloc: Global,
     source: &mut S,
     limit: usize,

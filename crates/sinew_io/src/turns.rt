@@ -3,9 +3,9 @@ ghost use Rattle.std.specs.Prelude.{◌≡◌, ◌+◌};
 use std::marker::Model;
 use std::sync::ledger::{Blank, Book, Ledger, Share};
 
-/// How many turns a reading took. It has no bytes, and only `tick` changes it.
+/// How many turns a reading took. It has no bytes, and only a turn changes it.
 #[derive(Drop)]
-pub(crate) struct Turns<L: Ledger> {
+pub struct Turns<L: Ledger> {
     book: Book<L>,
     share: Share<L>,
 }
@@ -21,7 +21,8 @@ impl<L: Ledger> Model for Turns<L> {
 }
 
 impl<L: Ledger> Turns<L> {
-    pub(crate) fn new(blank: Blank) -> Self
+    /// No turn yet.
+    pub fn new(blank: Blank) -> Self
         requires name { blank.name ≡ L.name }
         requires parts { blank.parts ≡ L.parts }
         requires some { blank.parts ≡ 1 }

@@ -1,6 +1,6 @@
 -- Words of private calls: numbers within so many bits, and forms of expressions.
 use Rattle.std.specs.Prelude.{ℕ, ℤ, ◌≤◌, ◌^◌, nat_abs, Bool, true, false}
-use Rattle.row_columns.specs.declared.value_ref.ValueRef as value_ref
+use Rattle.doc_values.specs.declared.value_ref.ValueRef as value_ref
 use Rattle.sql_eval.specs.declared.expr.Expr.{Expr}
 use Rattle.sql_eval.specs.declared.expr.Expr.TheOpen.{Expr-F}
 use Rattle.sql_eval.specs.declared.expr.Expr.TheFolds.{fold-Expr}

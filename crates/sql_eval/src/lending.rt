@@ -5,7 +5,7 @@ ghost use Rattle.row_columns.specs.Lent.{owned};
 ghost use Rattle.sql_eval.specs.Resolved.{value_over, added_over};
 ghost use Rattle.sql_eval.specs.Widths.{width_of, width_in, are_narrow, addends_are_narrow, bits_of, sum_bits, IsStorableTuple};
 ghost use Rattle.sql_eval.specs.Within.{IsWithin, IsNumberWithin};
-ghost use Rattle.row_columns.specs.declared.value_ref.ValueRef as value_ref;
+ghost use Rattle.doc_values.specs.declared.value_ref.ValueRef as value_ref;
 
 use crate::addend::Addend;
 use crate::arithmetic::{negative, plus, times};

@@ -4,11 +4,10 @@ ghost use Rattle.doc_values.specs.Value.{IsStorable};
 ghost use Rattle.attr_catalog.specs.Attribute.{fresh};
 
 use attr_catalog::{AddFault, Catalog};
-use doc_values::{Kind, Utf, Value};
+use doc_values::{Kind, Utf, Value, ValueRef};
 use document_records::{
     Parts, Record, document, kind_stored, push_value, read_value, value_of_kind, value_under,
 };
-use row_columns::ValueRef;
 use std::alloc::{AllocError, Global};
 use std::test::Fail;
 
@@ -16,12 +15,12 @@ use std::test::Fail;
 fn is_stored_as(alloc: Global, value: &Value, bytes: &[u8]) -> Result<bool, AllocError>
     requires { IsStorable value.now }
 {
-    let kind = kind_stored(value);
+    let kind = kind_stored(ValueRef::of(value));
     let mut written = Vec::new(alloc);
-    push_value(&mut written, value)?;
+    push_value(&mut written, ValueRef::of(value))?;
     let back = read_value(alloc, kind, &written)?;
     let mut again = Vec::new(alloc);
-    push_value(&mut again, &back)?;
+    push_value(&mut again, ValueRef::of(&back))?;
     Ok(written.as_slice() == bytes && again.as_slice() == bytes && back.kind() == kind)
 }
 
@@ -60,7 +59,7 @@ fn record_of_a(alloc: Global) -> Result<Record, AllocError>
     ensures ok { IfOk result (λ made. made ≡ record { id = 0; bytes = to_le_bytes w64 7 } ∷ []) }
 {
     let mut parts = Parts::new(alloc);
-    parts.push(0, &Value::Int(7))?;
+    parts.push(0, ValueRef::Int(7))?;
     parts.record(alloc)
 }
 

@@ -1,6 +1,7 @@
 use Rattle.std.proofs.Common.{◌≡◌, Err, refl, ◌∙◌, sym, ap}
 use Rattle.std.proofs.lemmas.Result.{err_from_is_err_and}
 use Rattle.commit_core.specs.declared.load_refusal.LoadRefusal.TheVariants.{Full}
+use Rattle.doc_values.specs.Lent.{owned}
 use Rattle.attr_catalog.specs.Catalog.{most_attributes}
 use Rattle.document_records.specs.StoredDocument.{pairs_of}
 use Rattle.commit_core.proofs.Pairs.{grown_itself, grown_twice}
@@ -15,7 +16,7 @@ loop-place-preserved c =
     let old = c.loop-place.catalog in
     let new = c.number_pair.new.catalog in
     let name = c.field.result.0.now in
-    let v = c.field.result.1.now in
+    let v = owned c.field.result.1 in
     record {
       grown = grown_twice c.args.catalog.now old new c.loop-place.invariant.grown c.number_pair.ensures.grown;
       entered = rw c.in_ok-push.ensures.items
@@ -35,5 +36,8 @@ pub returns-in_err-id-clause-full : goal.returns-in_err-id-clause-full
 returns-in_err-id-clause-full c = λ e.
     let p = err_from_is_err_and c.from_residual.result c.from_residual.ensures.1 in
     let same : p.0 ≡ Full = cc in
-    too_many (pairs_of c.args.catalog.now) (pairs_of c.loop-place.catalog) c.args.document.now c.loop-place.place most_attributes c.field.result.0.now c.field.result.1.now c.kind_stored.result c.field.ensures.exact c.kind_stored.ensures.exact
+    too_many (pairs_of c.args.catalog.now) (pairs_of c.loop-place.catalog) c.args.document.now c.loop-place.place most_attributes c.field.result.0.now (owned c.field.result.1) c.kind_stored.result c.field.ensures.exact c.kind_stored.ensures.exact
     c.loop-place.invariant.pairs (c.in_err-id.ensures.full (ap Err (sym p.2 ∙ same)))
+
+pub returns-in_err-note_follower-clause-grown : goal.returns-in_err-note_follower-clause-grown
+returns-in_err-note_follower-clause-grown c = grown_twice c.args.catalog.now c.loop-place.catalog c.number_pair.new.catalog c.loop-place.invariant.grown c.number_pair.ensures.grown

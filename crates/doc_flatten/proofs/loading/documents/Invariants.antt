@@ -6,4 +6,4 @@ use Rattle.doc_flatten.proofs.loading.documents.Given as goal
 
 abbrev pub invariant-loop-before : goal.invariant-loop-before
 invariant-loop-before l =
-    after l.docs.items (documents_from (l.before + 1) (items_view (drop l.before l.trees))) ≡ documents_from 1 (items_view l.trees)
+    after l.docs (documents_from (l.before + 1) (items_view (drop l.before l.trees))) ≡ documents_from 1 (items_view l.trees)

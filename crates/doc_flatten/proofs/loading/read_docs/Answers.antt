@@ -7,4 +7,4 @@ use Rattle.doc_flatten.proofs.loading.read_docs.Goals as goal
 
 pub returns-in-Ok-clause-kept : goal.returns-in-Ok-clause-kept
 returns-in-Ok-clause-kept c =
-    IfOk-weaker c.documents_in.result _ _ (λ docs e. documents_of-each IsWithinLimits document_of_members-limits c.args.text.now docs.items (ap documents_or_unread c.in-Ok.ensures.ok ∙ e)) c.documents_in.ensures.ok
+    IfOk-weaker c.documents_in.result _ _ (λ docs e. documents_of-each IsWithinLimits document_of_members-limits c.args.text.now docs (ap documents_or_unread c.in-Ok.ensures.ok ∙ e)) c.documents_in.ensures.ok

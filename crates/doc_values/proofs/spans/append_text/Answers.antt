@@ -1,6 +1,6 @@
 use Rattle.std.proofs.Common.{string_bytes, length, ap, subst, IsUtf8}
-use Rattle.row_columns.proofs.Texts.{spans_kept, span_put}
-use Rattle.row_columns.proofs.filling.append.Goals as goal
+use Rattle.doc_values.proofs.Behind.{spans_kept, span_put}
+use Rattle.doc_values.proofs.spans.append_text.Goals as goal
 
 pub returns-clause-ok : goal.returns-clause-ok
 returns-clause-ok c =

@@ -1,6 +1,6 @@
--- A value that is lent.
+-- A value that is lent, and the value that it stands for.
 use Rattle.doc_values.specs.declared.value.Value as value
-use Rattle.row_columns.specs.declared.value_ref.ValueRef as value_ref
+use Rattle.doc_values.specs.declared.value_ref.ValueRef as value_ref
 
 -- A value that is lent, as a value.
 abbrev pub owned : value_ref.ValueRef → value.Value

@@ -1,6 +1,7 @@
 ghost use Rattle.std.specs.Prelude.{◌≡◌, IfOk};
 
-use doc_values::{Utf, Value};
+use crate::utf::Utf;
+use crate::value::Value;
 use std::alloc::{AllocError, Global};
 
 /// A value that is lent: its text is not copied.
@@ -14,7 +15,7 @@ pub enum ValueRef<'a> {
 }
 
 impl<'a> ValueRef<'a> {
-    ghost use Rattle.row_columns.specs.Lent.{owned};
+    ghost use Rattle.doc_values.specs.Lent.{owned};
 
     /// The value, lent.
     pub fn of(value: &'a Value) -> ValueRef<'a>
