@@ -5,8 +5,8 @@
     bench/loads.py --quick      5,000 documents, one run
     bench/loads.py --beside PROGRAM   another build of the program too, in turns with this one
 
-The bare reading is that of crates/flatten_bench: serde_json reads each text as a tree and lets it go. sqlite3 parses each document
-by `json`. The scripts are made when this runs, in a temporary folder, and are gone afterwards.
+The bare reading is that of crates/flatten_bench: serde_json reads all documents as one tree. sqlite3 parses each document by
+`json`. The scripts are made when this runs, in a temporary folder, and are gone afterwards.
 """
 import argparse
 import json
@@ -79,7 +79,7 @@ def main():
                 with open(path, "w") as out:
                     out.writelines("1 LOAD events %s\n" % text for text in texts)
                 size = os.path.getsize(path)
-                bare = int(lines_told("flatten_bench", "\n".join(texts))[0][0]) / 1e6
+                bare = int(lines_told("flatten_bench", "[" + ",".join(documents) + "]")[0][0]) / 1e6
                 turns = [[run(program, path) for program in programs] for _ in range(rounds)]
             row = "| %s, %d a load | %.1f | %.3f |" % (name, batch, size / MIB, bare)
             for results in zip(*turns):

@@ -1,6 +1,6 @@
-//! Times the reading of documents beside the bare reading of the same JSON texts.
+//! Times the reading of documents beside the bare reading of the same JSON text.
 //!
-//! The texts come from standard input, one a line; without one nothing is done and nothing printed. What is printed are the
+//! The text comes from standard input; without one nothing is done and nothing printed. What is printed are the
 //! microseconds of both readings, each the best of five.
 #![tactic(auto)]
 
@@ -27,24 +27,24 @@ fn main(rt: HostRuntime) -> Result<()> {
     Ok(())
 }
 
-// The microseconds in which the texts are read as trees.
-fn read_bare(rt: &HostRuntime, texts: &str) -> Result<u128> {
+// The microseconds in which the text is read as a tree.
+fn read_bare(rt: &HostRuntime, text: &str) -> Result<u128> {
     let start = Instant::now(rt)?;
-    for text in texts.lines() {
-        if Value::from_str(rt.alloc(), text).is_err() {
-            return Err(anyhow!("no JSON"));
-        }
+    let tree = Value::from_str(rt.alloc(), text);
+    let taken = start.elapsed(rt)?.as_micros();
+    match tree {
+        Ok(_) => Ok(taken),
+        Err(_) => Err(anyhow!("no JSON")),
     }
-    Ok(start.elapsed(rt)?.as_micros())
 }
 
-// The microseconds in which the texts are read as documents.
-fn read_whole(rt: &HostRuntime, texts: &str) -> Result<u128> {
+// The microseconds in which the text is read as documents.
+fn read_whole(rt: &HostRuntime, text: &str) -> Result<u128> {
     let start = Instant::now(rt)?;
-    for text in texts.lines() {
-        if read_docs(rt.alloc(), text).is_err() {
-            return Err(anyhow!("no documents"));
-        }
+    let docs = read_docs(rt.alloc(), text);
+    let taken = start.elapsed(rt)?.as_micros();
+    match docs {
+        Ok(_) => Ok(taken),
+        Err(_) => Err(anyhow!("no documents")),
     }
-    Ok(start.elapsed(rt)?.as_micros())
 }
