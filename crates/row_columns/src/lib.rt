@@ -15,8 +15,8 @@ mod table_rows;
 mod tuples;
 
 pub use cell_column::CellColumn;
+pub use doc_values::ValueRef;
 pub use place::Place;
 pub use sides::Sides;
 pub use table_rows::TableRows;
 pub use tuples::Tuples;
-pub use doc_values::ValueRef;
