@@ -5,3 +5,4 @@ pub mod Comparing
 pub mod WholeLines
 pub mod AsTheyCome
 mod Unescaped
+mod FirstRows

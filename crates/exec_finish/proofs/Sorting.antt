@@ -44,7 +44,7 @@ module _ (descending : List Bool) where
   -- ---- rising lists
 
   -- no later row comes before an earlier one
-  Rises : List Output → Type 0
+  pub Rises : List Output → Type 0
   Rises [] = Unit {0}
   Rises (r ∷ rs) = EachIs (λ s. before s r ≡ false) rs × Rises rs
 
@@ -89,7 +89,7 @@ module _ (descending : List Bool) where
       by_order more true e = (EachIs-put_in (λ t. before t s ≡ false) r ss (IsStrictWeakOrder-before.one_way s r e) h.0, more)
       by_order more false e = ((e, EachIs-weaker (λ t. before t s ≡ false) (λ t. before t r ≡ false) (λ t p. IsStrictWeakOrder-before.chain t s r p e) ss h.0), h)
 
-  rises_ordered : (rs : List Output) → Rises (ordered descending rs)
+  pub rises_ordered : (rs : List Output) → Rises (ordered descending rs)
   unfolding Rises
   rises_ordered [] = tt
   rises_ordered (r ∷ rs) = rises_put_in r (ordered descending rs) (rises_ordered rs)

@@ -2,6 +2,7 @@ pub mod Plain
 pub mod Escapes
 pub mod Distinct
 pub mod Order
+pub mod Keyed
 pub mod Answer
 pub mod Lines
 pub mod Fed

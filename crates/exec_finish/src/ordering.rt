@@ -29,7 +29,7 @@ fn compare(keys: &[KeyPlan], row: &OutRow, other: &OutRow) -> Ordering
 }
 
 // The order of a key, turned round where it is descending.
-fn directed(descending: bool, ordering: Ordering) -> Ordering
+pub(crate) fn directed(descending: bool, ordering: Ordering) -> Ordering
     ensures exact { result ≡ (if descending then ordering_reverse ordering else ordering) }
 {
     if descending {
