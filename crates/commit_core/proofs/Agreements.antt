@@ -3,7 +3,7 @@ use Rattle.std.proofs.Common.{◌≡◌, ◌≤◌, ◌∙◌, ◌==◌, refl, �
 use Rattle.std.specs.Prelude.{All, IfSome}
 use Rattle.std.specs.List.{AllByRecursion as EachIs}
 use Rattle.std.specs.Option.{option_map_or}
-use Rattle.std.proofs.lemmas.List.Elements.{All-from_recursion}
+use Rattle.std.proofs.lemmas.List.Elements.{All-from_recursion, recursion_from_All, All-filter, All-take}
 use Rattle.std.proofs.lemmas.List.{length-map, take_all}
 use Rattle.doc_values.specs.declared.col_ref.ColRef.{ColRef}
 use Rattle.doc_values.specs.declared.kind.Kind.{Kind}
@@ -17,8 +17,8 @@ use Rattle.sql_tree.specs.declared.table.Table.{Table}
 use Rattle.row_columns.specs.Contents.{Cells}
 use Rattle.sql_eval.specs.Meaning.{given, if_wanted}
 use Rattle.type_rules.specs.Uses.{columns_of}
-use Rattle.query_meaning.specs.Question.{answer_among}
-use Rattle.query_meaning.specs.Plans.{cells_of, rows_read}
+use Rattle.query_meaning.specs.Question.{is_kept, documents_kept, answer_among}
+use Rattle.query_meaning.specs.Plans.{cells_under, cells_of, most_needed, at_most, rows_read}
 use Rattle.query_meaning.specs.Runs.{IsStorableRow}
 use Rattle.commit_core.specs.State.{State, IsState, documents_at}
 use Rattle.commit_core.specs.Query.{documents_asked, answer_of}
@@ -76,9 +76,17 @@ cells_storable : StaysDocument → (d : Fields) → IsDocument d → (columns : 
 cells_storable law d h [] = tt
 cells_storable law d h (c ∷ cs) = (given_by c.want (value_at c.name d) (law d c.name h).2, cells_storable law d h cs)
 
-rows_storable : StaysDocument → (s : Select) (ds : List Fields) → EachIs IsDocument ds → EachIs IsStorableRow (rows_read s ds)
+-- what is read of a document can be computed with
+pub row_storable : StaysDocument → (columns : List ColRef) (d : Fields) → IsDocument d → IsStorableRow (cells_under columns false d)
+row_storable law columns d h = All-from_recursion (λ cell. IfSome cell IsStorable) (cells_under columns false d).cells (cells_storable law d h columns)
+
+rows_storable : StaysDocument → (s : Select) (ds : List Fields) → EachIs IsDocument ds → EachIs IsStorableRow (map (cells_of s) ds)
 rows_storable law s [] h = tt
-rows_storable law s (d ∷ ds) h = (All-from_recursion (λ cell. IfSome cell IsStorable) (cells_of s d).cells (cells_storable law d h.0 (columns_of s)), rows_storable law s ds h.1)
+rows_storable law s (d ∷ ds) h = (row_storable law (columns_of s) d h.0, rows_storable law s ds h.1)
+
+needed_documents : (s : Select) (most : Option ℕ) (ds : List Fields) → All IsDocument ds → All IsDocument (at_most most (documents_kept s ds))
+needed_documents s None ds h = All-filter (λ (d : Fields). is_kept s (Some d ∷ [])) IsDocument ds h
+needed_documents s (Some most) ds h = All-take IsDocument most (documents_kept s ds) (All-filter (λ (d : Fields). is_kept s (Some d ∷ [])) IsDocument ds h)
 
 asked_documents : (s : Select) (state : State) → IsState state → EachIs IsDocument (documents_asked s state)
 asked_documents s state h = by (slice_get s.tables 0)
@@ -89,7 +97,10 @@ asked_documents s state h = by (slice_get s.tables 0)
 
 -- the rows that are read of the documents of a state hold numbers of documents
 pub read_storable : StaysDocument → (s : Select) (state : State) → IsState state → All IsStorableRow (rows_read s (documents_asked s state))
-read_storable law s state h = All-from_recursion IsStorableRow (rows_read s (documents_asked s state)) (rows_storable law s (documents_asked s state) (asked_documents s state h))
+read_storable law s state h =
+    let most = most_needed s.distinct (map (λ k. k.descending) s.keys) s.limit in
+    let documents = needed_documents s most (documents_asked s state) (All-from_recursion IsDocument (documents_asked s state) (asked_documents s state h)) in
+    All-from_recursion IsStorableRow (rows_read s (documents_asked s state)) (rows_storable law s (at_most most (documents_kept s (documents_asked s state))) (recursion_from_All IsDocument (at_most most (documents_kept s (documents_asked s state))) documents))
 
 -- ---- the reply of a reading
 

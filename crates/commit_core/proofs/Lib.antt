@@ -16,3 +16,5 @@ pub mod Places
 pub mod Lights
 mod StoredRows
 mod RowsTurned
+mod Fronts
+mod Tested

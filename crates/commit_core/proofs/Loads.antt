@@ -8,7 +8,7 @@ use Rattle.doc_values.specs.Doc.{Fields}
 use Rattle.commit_core.specs.State.{Row, Collection, State, documents_at}
 use Rattle.commit_core.specs.Write.{rows_from, with_load}
 
-documents-rows_from : (n : ℕ) (documents : List Fields) → map (λ (row : Row). row.document) (rows_from n documents) ≡ documents
+pub documents-rows_from : (n : ℕ) (documents : List Fields) → map (λ (row : Row). row.document) (rows_from n documents) ≡ documents
 documents-rows_from n [] = refl
 documents-rows_from n (d ∷ ds) = ap (λ more. d ∷ more) (documents-rows_from (n + 1) ds)
 

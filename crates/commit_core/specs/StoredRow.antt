@@ -9,6 +9,8 @@ use Rattle.attr_catalog.specs.Attribute.{Attribute}
 use Rattle.attr_catalog.specs.Catalog.{kinds_of, id_at}
 use Rattle.attr_catalog.specs.declared.kinds.Kinds.{Kinds}
 use Rattle.row_columns.specs.Contents.{Cells}
+use Rattle.sql_eval.specs.declared.expr.Expr.{Expr}
+use Rattle.query_meaning.specs.Plans.{alone, passes}
 use Rattle.commit_core.specs.declared.column_path.ColumnPath.{ColumnPath}
 use Rattle.document_records.specs.ReadBack.{value_of_kind, value_under}
 use Rattle.document_records.specs.StoredDocument.{pairs_of, document_stored}
@@ -34,6 +36,14 @@ cell_along fields path = cell_at_kind path.kinds path.want fields
 -- The row of a record along paths, with its document where whole documents are asked for.
 abbrev pub row_along : List Attribute → List ColumnPath → Bool → List Field → Cells
 row_along attributes paths whole fields = record { cells = map (cell_along fields) paths; doc = if whole then Some (document_stored (pairs_of attributes) fields) else None }
+
+-- What a record has along paths, without its document.
+abbrev pub cells_along : List ColumnPath → List Field → Cells
+cells_along paths fields = record { cells = map (cell_along fields) paths; doc = None }
+
+-- The condition of a plan keeps a record, by what it has along paths.
+abbrev pub is_kept_along : List ColumnPath → Option Expr → List Field → Bool
+is_kept_along paths test fields = passes test (alone (cells_along paths fields))
 
 -- What records have along a path.
 abbrev pub column_along : List (List Field) → ColumnPath → List (Option Value)

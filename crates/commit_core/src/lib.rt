@@ -5,6 +5,7 @@
 //! first: the reply to a text over a state, and the state after texts, are what the promise rests on.
 #![tactic(auto)]
 
+mod choosing;
 mod collections;
 mod column_path;
 mod counting;

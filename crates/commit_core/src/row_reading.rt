@@ -1,15 +1,14 @@
 ghost use Rattle.std.specs.Prelude.{◌≡◌, All, map, option_map, IfOk};
 ghost use Rattle.doc_values.specs.Doc.{IsDocument};
-ghost use Rattle.attr_catalog.specs.Catalog.{IsOnce};
 ghost use Rattle.document_records.specs.ReadBack.{CanBeRead};
 ghost use Rattle.document_records.specs.StoredDocument.{pairs_of, document_stored, IsKept};
 ghost use Rattle.row_columns.specs.Lent.{owned};
-ghost use Rattle.commit_core.specs.StoredRow.{cell_along, column_along, documents_along, path_of, row_along, IsPathIn};
+ghost use Rattle.commit_core.specs.StoredRow.{cell_along, column_along, documents_along, path_of, row_along};
 
 use crate::column_path::ColumnPath;
 use attr_catalog::Catalog;
 use doc_values::{ColRef, Doc};
-use document_records::{Record, document, records_are_their_documents, value_of_kind, value_under};
+use document_records::{Record, document, value_of_kind, value_under};
 use row_columns::{CellColumn, TableRows, ValueRef};
 use std::alloc::{AllocError, Global};
 
@@ -38,15 +37,13 @@ pub(crate) fn rows_along(
     catalog: &Catalog,
     paths: &[ColumnPath],
     whole: bool,
-    records: &[Record],
+    records: &[&Record],
 ) -> Result<TableRows, AllocError>
-    requires once { IsOnce catalog.now }
-    requires named { All (IsPathIn catalog.now) paths.now }
-    requires kept { All (IsKept (pairs_of catalog.now)) records.now }
-    requires ordered { All (λ fields. IsDocument (document_stored (pairs_of catalog.now) fields)) records.now }
-    ensures ok { IfOk result (λ rows. rows ≡ map (row_along catalog.now paths.now whole) records.now) }
+    requires readable { All (λ path. All (CanBeRead path.kinds) (map (λ r. r.now) records.now)) paths.now }
+    requires kept { All (IsKept (pairs_of catalog.now)) (map (λ r. r.now) records.now) }
+    requires ordered { All (λ fields. IsDocument (document_stored (pairs_of catalog.now) fields)) (map (λ r. r.now) records.now) }
+    ensures ok { IfOk result (λ rows. rows ≡ map (row_along catalog.now paths.now whole) (map (λ r. r.now) records.now)) }
 {
-    records_are_their_documents();
     let Ok(count) = u32::try_from(records.len()) else {
         return Err(AllocError);
     };
@@ -55,13 +52,14 @@ pub(crate) fn rows_along(
     Ok(TableRows::new(count, columns, documents))
 }
 
-fn columns_along(
+/// The values of records along each of some paths.
+pub(crate) fn columns_along(
     alloc: Global,
     paths: &[ColumnPath],
-    records: &[Record],
+    records: &[&Record],
 ) -> Result<Vec<CellColumn>, AllocError>
-    requires { All (λ path. All (CanBeRead path.kinds) records.now) paths.now }
-    ensures ok { IfOk result (λ columns. columns.items ≡ map (column_along records.now) paths.now) }
+    requires { All (λ path. All (CanBeRead path.kinds) (map (λ r. r.now) records.now)) paths.now }
+    ensures ok { IfOk result (λ columns. columns.items ≡ map (column_along (map (λ r. r.now) records.now)) paths.now) }
 {
     let mut columns = Vec::with_capacity(alloc, paths.len())?;
     for path in paths {
@@ -73,10 +71,10 @@ fn columns_along(
 fn column_along(
     alloc: Global,
     path: ColumnPath,
-    records: &[Record],
+    records: &[&Record],
 ) -> Result<CellColumn, AllocError>
-    requires { All (CanBeRead path.kinds) records.now }
-    ensures ok { IfOk result (λ column. column ≡ column_along records.now path) }
+    requires { All (CanBeRead path.kinds) (map (λ r. r.now) records.now) }
+    ensures ok { IfOk result (λ column. column ≡ column_along (map (λ r. r.now) records.now) path) }
 {
     let mut column = CellColumn::new(alloc);
     column.reserve(records.len())?;
@@ -101,11 +99,11 @@ fn documents(
     alloc: Global,
     catalog: &Catalog,
     whole: bool,
-    records: &[Record],
+    records: &[&Record],
 ) -> Result<Vec<Doc>, AllocError>
-    requires kept { All (IsKept (pairs_of catalog.now)) records.now }
-    requires ordered { All (λ fields. IsDocument (document_stored (pairs_of catalog.now) fields)) records.now }
-    ensures ok { IfOk result (λ documents. documents.items ≡ documents_along (pairs_of catalog.now) whole records.now) }
+    requires kept { All (IsKept (pairs_of catalog.now)) (map (λ r. r.now) records.now) }
+    requires ordered { All (λ fields. IsDocument (document_stored (pairs_of catalog.now) fields)) (map (λ r. r.now) records.now) }
+    ensures ok { IfOk result (λ documents. documents.items ≡ documents_along (pairs_of catalog.now) whole (map (λ r. r.now) records.now)) }
 {
     if whole {
         all_documents(alloc, catalog, records)
@@ -117,11 +115,11 @@ fn documents(
 fn all_documents(
     alloc: Global,
     catalog: &Catalog,
-    records: &[Record],
+    records: &[&Record],
 ) -> Result<Vec<Doc>, AllocError>
-    requires kept { All (IsKept (pairs_of catalog.now)) records.now }
-    requires ordered { All (λ fields. IsDocument (document_stored (pairs_of catalog.now) fields)) records.now }
-    ensures ok { IfOk result (λ documents. documents.items ≡ map (document_stored (pairs_of catalog.now)) records.now) }
+    requires kept { All (IsKept (pairs_of catalog.now)) (map (λ r. r.now) records.now) }
+    requires ordered { All (λ fields. IsDocument (document_stored (pairs_of catalog.now) fields)) (map (λ r. r.now) records.now) }
+    ensures ok { IfOk result (λ documents. documents.items ≡ map (document_stored (pairs_of catalog.now)) (map (λ r. r.now) records.now)) }
 {
     let mut documents = Vec::with_capacity(alloc, records.len())?;
     for stored in records {

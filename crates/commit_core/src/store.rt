@@ -11,6 +11,7 @@ use crate::reading::Reading;
 use crate::reply::Reply;
 use crate::state_laws::{loads_are_light, states_keep_the_rules};
 use doc_values::{Bytes, Documents, Utf, documents_are_maps};
+use query_meaning::{plans_can_be_run, plans_read_what_is_asked};
 use row_columns::TableRows;
 use sql_eval::SelectPlan;
 use std::alloc::{AllocError, Global};
@@ -171,6 +172,8 @@ impl Core {
         ensures ok { IfOk result (λ rows. (p : Plan) (asked : IsReadAs plan.now p) → rows ≡ rows_read asked.question (documents_asked asked.question (state_of self.now))) }
     {
         states_keep_the_rules();
+        plans_can_be_run();
+        plans_read_what_is_asked();
         let Some(collection) = plan.from.tables.get(0) else {
             unreachable!()
         };
@@ -178,7 +181,7 @@ impl Core {
             unreachable!()
         };
         match self.collections.get(collection.text()) {
-            Some(table) => table.rows(columns.as_slice(), plan.star),
+            Some(table) => table.rows(plan, columns.as_slice()),
             None => {
                 let alloc = self.allocator();
                 Ok(TableRows::new(0, Vec::new(alloc), Vec::new(alloc)))

@@ -1,13 +1,15 @@
 ghost use Rattle.std.specs.Prelude.{◌≡◌, ◌≤◌, true, false, Err, All, map, IfOk, OnOk, OnErr};
 ghost use Rattle.doc_flatten.specs.Documents.{IsWithinLimits};
 
+use crate::choosing::needed;
 use crate::load_refusal::LoadRefusal;
 use crate::loading::load;
 use crate::row_reading::{paths, rows_along};
 use attr_catalog::Catalog;
-use doc_values::{ColRef, Documents, Utf};
+use doc_values::{ColRef, Documents, Utf, documents_are_maps};
 use document_records::{Record, records_are_their_documents};
 use row_columns::TableRows;
+use sql_eval::SelectPlan;
 use std::alloc::{AllocError, Global};
 use std::marker::Model;
 
@@ -36,7 +38,8 @@ impl Table {
     ghost use Rattle.doc_values.specs.Doc.{IsDocument};
     ghost use Rattle.doc_values.specs.Weight.{weight_of};
     ghost use Rattle.document_records.specs.Limits.{most_weight};
-    ghost use Rattle.query_meaning.specs.Plans.{cells_under};
+    ghost use Rattle.query_meaning.specs.Plans.{rows_by};
+    ghost use Rattle.query_meaning.specs.Runs.{CanBeTested};
     ghost use Rattle.commit_core.specs.Write.{new_collection, with_documents, is_beyond};
 
     /// A collection that nothing was put into.
@@ -75,15 +78,19 @@ impl Table {
         )
     }
 
-    /// The row of each document: a value, or NULL, for each column, and the document where whole ones are asked for.
-    pub(crate) fn rows(&self, columns: &[ColRef], whole: bool) -> Result<TableRows, AllocError>
-        requires { All (λ row. IsDocument row.document) self.now.rows }
-        ensures ok { IfOk result (λ rows. rows ≡ map (cells_under columns.now whole) (map (λ row. row.document) self.now.rows)) }
+    /// The rows that a plan reads: of the documents that its condition keeps, as many as its answer needs, each with a
+    /// value, or NULL, for each column, and with the document where whole ones are asked for.
+    pub(crate) fn rows(&self, plan: &SelectPlan, columns: &[ColRef]) -> Result<TableRows, AllocError>
+        requires ordered { All (λ row. IsDocument row.document) self.now.rows }
+        requires tested { CanBeTested plan.now }
+        ensures ok { IfOk result (λ rows. rows ≡ rows_by plan.now columns.now (map (λ row. row.document) self.now.rows)) }
     {
         records_are_their_documents();
+        documents_are_maps();
         self.catalog.keeps_the_rules();
         let alloc = *self.records.allocator();
         let paths = paths(alloc, &self.catalog, columns)?;
-        rows_along(alloc, &self.catalog, &paths, whole, &self.records)
+        let needed = needed(alloc, &paths, plan, &self.records)?;
+        rows_along(alloc, &self.catalog, &paths, plan.star, &needed)
     }
 }

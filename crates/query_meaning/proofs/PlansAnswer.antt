@@ -1,8 +1,9 @@
--- The rows that are read answer a question as its documents do.
-use Rattle.std.proofs.Common.{◌≡◌, ◌∙◌, refl, sym, ap, subst, ℕ, zero, suc, Bool, true, false, cond, List, [], ◌∷◌, map, Option, Some, None, slice_get}
+-- The rows that are read answer a question as its documents do, and are those that the plan reads.
+use Rattle.std.proofs.Common.{◌≡◌, ◌∙◌, refl, sym, ap, subst, ℕ, zero, suc, Bool, true, false, cond, List, [], ◌∷◌, map, take, Option, Some, None, slice_get}
 use Rattle.std.specs.Prelude.{filter}
 use Rattle.std.specs.Option.{option_map_or}
-use Rattle.std.proofs.lemmas.Bool.{cond-true, cond-false}
+use Rattle.std.proofs.lemmas.List.{take-map}
+use Rattle.std.proofs.lemmas.List.Elements.{filter_agree}
 use Rattle.std.proofs.lemmas.Option.{same_Some}
 use Rattle.doc_values.specs.Doc.{Fields}
 use Rattle.doc_values.specs.declared.col_ref.ColRef.{ColRef}
@@ -24,32 +25,55 @@ use Rattle.type_rules.specs.Places.{scope_of, item_terms, key_terms}
 use Rattle.type_rules.specs.Plan.{ConditionResolves, IsPlanOf}
 use Rattle.type_rules.specs.Uses.{columns_of}
 use Rattle.exec_join.specs.Filter.{keeps}
-use Rattle.exec_finish.specs.Answer.{finished}
+use Rattle.exec_finish.specs.Answer.{answer_text, limited, finished}
+use Rattle.exec_finish.specs.Order.{put_in, ordered}
 use Rattle.exec_finish.specs.Plain.{document_of, plain_row}
 use Rattle.query_meaning.specs.Question.{tuples_of, is_kept, values_of, output_of, answer_among}
-use Rattle.query_meaning.specs.Plans.{cells_of, rows_read, alone, kept_by, answer_of_plan}
+use Rattle.query_meaning.specs.Plans.{cells_under, cells_of, most_needed, at_most, rows_read, rows_by, alone, tuples_over, passes, output_by, answer_of_plan}
 
 -- ---- lists
 
-module _ {A B C : Type 0} (P : A → Bool) (F : A → C) (Q : B → Bool) (G : B → C) where
-  one_by : (a : A) (b : B) (xs : List A) (ys : List B) (t : Bool) → Q b ≡ t → P a ≡ Q b → F a ≡ G b → map F (filter P xs) ≡ map G (filter Q ys) → map F (filter P (a ∷ xs)) ≡ map G (filter Q (b ∷ ys))
-  one_by a b xs ys true e same given rest =
-      ap (map F) (cond-true (P a) (a ∷ filter P xs) (filter P xs) (same ∙ e)) ∙ (λ i. given i ∷ rest i) ∙ sym (ap (map G) (cond-true (Q b) (b ∷ filter Q ys) (filter Q ys) e))
-  one_by a b xs ys false e same given rest =
-      ap (map F) (cond-false (P a) (a ∷ filter P xs) (filter P xs) (same ∙ e)) ∙ rest ∙ sym (ap (map G) (cond-false (Q b) (b ∷ filter Q ys) (filter Q ys) e))
+-- what is made of a list, filtered
+by_one : {A B : Type 0} (f : A → B) (a : A) (t : Bool) (xs : List A) (ys : List B) → ys ≡ map f xs → cond t (f a ∷ ys) ys ≡ map f (cond t (a ∷ xs) xs)
+by_one f a true xs ys e = λ i. f a ∷ e i
+by_one f a false xs ys e = e
 
-  -- what passes on one side passes on the other, and gives the same
-  pub alike_kept : {D : Type 0} (f : D → A) (g : D → B) → ((d : D) → P (f d) ≡ Q (g d)) → ((d : D) → F (f d) ≡ G (g d)) → (ds : List D) → map F (filter P (map f ds)) ≡ map G (filter Q (map g ds))
-  alike_kept f g same given [] = refl
-  alike_kept f g same given (d ∷ ds) = one_by (f d) (g d) (map f ds) (map g ds) (Q (g d)) refl (same d) (given d) (alike_kept f g same given ds)
+pub filter_made : {A B : Type 0} (f : A → B) (p : B → Bool) (xs : List A) → filter p (map f xs) ≡ map f (filter (λ (x : A). p (f x)) xs)
+filter_made f p [] = refl
+filter_made {A} {B} f p (x ∷ xs) = by_one f x (p (f x)) (filter (λ (y : A). p (f y)) xs) (filter p (map f xs)) (filter_made f p xs)
 
-module _ {A B C : Type 0} (F : A → C) (Q : B → Bool) (G : B → C) where
-  -- where all pass nothing is left out
-  pub all_kept : {D : Type 0} (f : D → A) (g : D → B) → ((d : D) → Q (g d) ≡ true) → ((d : D) → F (f d) ≡ G (g d)) → (ds : List D) → map F (map f ds) ≡ map G (filter Q (map g ds))
-  all_kept f g same given [] = refl
-  all_kept f g same given (d ∷ ds) =
-      let rest = all_kept f g same given ds in
-      (λ i. given d i ∷ rest i) ∙ sym (ap (map G) (cond-true (Q (g d)) (g d ∷ filter Q (map g ds)) (filter Q (map g ds)) (same d)))
+pub at_most-map : {A B : Type 0} (f : A → B) (most : Option ℕ) (xs : List A) → map f (at_most most xs) ≡ at_most most (map f xs)
+at_most-map f None xs = refl
+at_most-map f (Some most) xs = sym (take-map f most xs)
+
+take_twice : {A : Type 0} (n : ℕ) (xs : List A) → take n (take n xs) ≡ take n xs
+take_twice zero xs = refl
+take_twice (suc n) [] = refl
+take_twice {A} (suc n) (x ∷ xs) = ap (λ (rest : List A). x ∷ rest) (take_twice n xs)
+
+-- ---- rows beyond those that an answer needs
+
+put_first : (r : Output) (rows : List Output) → put_in [] r rows ≡ r ∷ rows
+put_first r [] = refl
+put_first r (s ∷ ss) = refl
+
+unordered : (rows : List Output) → ordered [] rows ≡ rows
+unordered [] = refl
+unordered (r ∷ rs) = ap (put_in [] r) (unordered rs) ∙ put_first r rs
+
+limited_twice : (limit : Option ℕ) (rows : List Output) → limited limit (at_most limit rows) ≡ limited limit rows
+limited_twice None rows = refl
+limited_twice (Some limit) rows = take_twice limit rows
+
+needed_alone : (is_distinct : Bool) (descending : List Bool) (limit : Option ℕ) (star : Bool) (rows : List Output)
+    → finished is_distinct descending limit star (at_most (most_needed is_distinct descending limit) rows) ≡ finished is_distinct descending limit star rows
+needed_alone true [] limit star rows = refl
+needed_alone true (d ∷ ds) limit star rows = refl
+needed_alone false (d ∷ ds) limit star rows = refl
+needed_alone false [] limit star rows =
+    ap (λ (left : List Output). answer_text star (limited limit left)) (unordered (at_most limit rows))
+    ∙ ap (answer_text star) (limited_twice limit rows)
+    ∙ ap (λ (left : List Output). answer_text star (limited limit left)) (sym (unordered rows))
 
 -- ---- what is read of a document means what the document means
 
@@ -58,60 +82,65 @@ doc_by true d = refl
 doc_by false d = refl
 
 module _ (law : KeepsMeaning) (s : Select) (p : SelectPlan) (h : IsPlanOf s p) where
-  abbrev row : Fields → List (Option Cells)
-  row d = alone (cells_of s d)
+  abbrev row : Bool → Fields → List (Option Cells)
+  row whole d = alone (cells_under (columns_of s) whole d)
 
   abbrev sides : Fields → List (Option Fields)
   sides d = Some d ∷ []
 
-  at_row : (d : Fields) (place : ℕ) (columns : List ColRef) → slice_get (columns_of s ∷ []) place ≡ Some columns → IsRowOf columns (side_at (sides d) place) (side_at (row d) place)
-  at_row d zero columns at =
-      subst (λ (cs : List ColRef). (cells_of s d).cells ≡ map (λ (c : ColRef). given c.name c.want d) cs) (same_Some (columns_of s) columns at) refl
-  at_row d (suc k) columns at = absurd (cc)
+  at_row : (whole : Bool) (d : Fields) (place : ℕ) (columns : List ColRef) → slice_get (columns_of s ∷ []) place ≡ Some columns → IsRowOf columns (side_at (sides d) place) (side_at (row whole d) place)
+  at_row whole d zero columns at =
+      subst (λ (cs : List ColRef). (cells_under (columns_of s) whole d).cells ≡ map (λ (c : ColRef). given c.name c.want d) cs) (same_Some (columns_of s) columns at) refl
+  at_row whole d (suc k) columns at = absurd (cc)
 
-  holds : (d : Fields) → HoldsReferences p.refs (sides d) (row d)
-  holds d = subst (λ (refs : List (List ColRef)). HoldsReferences refs (sides d) (row d)) (sym h.refs) (at_row d)
+  holds : (whole : Bool) (d : Fields) → HoldsReferences p.refs (sides d) (row whole d)
+  holds whole d = subst (λ (refs : List (List ColRef)). HoldsReferences refs (sides d) (row whole d)) (sym h.refs) (at_row whole d)
 
-  means : (d : Fields) (want : Option Kind) (t : Term) (e : Expr) → Resolves (scope_of s) p.refs want t e → value_over (row d) e ≡ meaning (scope_of s) (sides d) t want
-  means d want t e r = sym (law (scope_of s) p.refs (sides d) (row d) want t e (holds d) r)
+  means : (whole : Bool) (d : Fields) (want : Option Kind) (t : Term) (e : Expr) → Resolves (scope_of s) p.refs want t e → value_over (row whole d) e ≡ meaning (scope_of s) (sides d) t want
+  means whole d want t e r = sym (law (scope_of s) p.refs (sides d) (row whole d) want t e (holds whole d) r)
 
-  values : (d : Fields) (ts : List Term) (es : List Expr) → AllResolve (scope_of s) p.refs (λ _. None) ts es → map (value_over (row d)) es ≡ values_of s (sides d) ts
+  values : (d : Fields) (ts : List Term) (es : List Expr) → AllResolve (scope_of s) p.refs (λ _. None) ts es → map (value_over (row s.star d)) es ≡ values_of s (sides d) ts
   values d [] [] no_terms = refl
   values d [] (e ∷ es) r = elim r [ ]
   values d (t ∷ ts) [] r = elim r [ ]
-  values d (t ∷ ts) (e ∷ es) (more_terms r rs) = let first = means d None t e r in let rest = values d ts es rs in λ i. first i ∷ rest i
+  values d (t ∷ ts) (e ∷ es) (more_terms r rs) = let first = means s.star d None t e r in let rest = values d ts es rs in λ i. first i ∷ rest i
 
-  docs : (d : Fields) → cond p.star (document_of (row d)) None ≡ cond s.star (side_at (sides d) 0) None
+  docs : (d : Fields) → cond p.star (document_of (row s.star d)) None ≡ cond s.star (side_at (sides d) 0) None
   docs d = ap (λ (t : Bool). cond t (cond s.star (Some d) None) None) h.star ∙ doc_by s.star d
 
-  output : (d : Fields) → plain_row p.star p.items (map (λ (k : KeyPlan). k.expr) p.keys) (row d) ≡ output_of s (sides d)
+  output : (d : Fields) → plain_row p.star p.items (map (λ (k : KeyPlan). k.expr) p.keys) (row s.star d) ≡ output_of s (sides d)
   output d =
       let items = values d (item_terms s) p.items h.items in
       let keys = values d (key_terms s) (map (λ (k : KeyPlan). k.expr) p.keys) h.keys in
       let doc = docs d in
       λ i. record { items = items i; doc = doc i; keys = keys i }
 
-  abbrev outputs : List (List (Option Cells)) → List Output
-  outputs tuples = map (plain_row p.star p.items (map (λ (k : KeyPlan). k.expr) p.keys)) tuples
+  outputs : (ds : List Fields) → map (output_by p) (tuples_over (map (cells_of s) ds)) ≡ map (output_of s) (tuples_of ds)
+  outputs [] = refl
+  outputs (d ∷ ds) = let first = output d in let rest = outputs ds in λ i. first i ∷ rest i
 
-  rows_by : (o : Option Term) (q : Option Expr) → s.test ≡ o → ConditionResolves (scope_of s) p.refs o q → (ds : List Fields) → outputs (kept_by q (map row ds)) ≡ map (output_of s) (filter (is_kept s) (tuples_of ds))
-  rows_by None None e r ds =
-      all_kept (plain_row p.star p.items (map (λ (k : KeyPlan). k.expr) p.keys)) (is_kept s) (output_of s) row sides
-      (λ d. ap (λ (o : Option Term). option_map_or (λ t. keeps (truth_of (meaning (scope_of s) (sides d) t (Some kind.Bool)))) o true) e)
-      output ds
-  rows_by None (Some q) e r ds = absurd r
-  rows_by (Some t) None e r ds = absurd r
-  rows_by (Some t) (Some q) e r ds =
-      alike_kept (λ (tuple : List (Option Cells)). keeps (truth_of (value_over tuple q))) (plain_row p.star p.items (map (λ (k : KeyPlan). k.expr) p.keys)) (is_kept s) (output_of s) row sides
-      (λ d. ap (λ (v : Option Value). keeps (truth_of v)) (means d (Some kind.Bool) t q r) ∙ sym (ap (λ (o : Option Term). option_map_or (λ u. keeps (truth_of (meaning (scope_of s) (sides d) u (Some kind.Bool)))) o true) e))
-      output ds
-
-  tuples_alone : (ds : List Fields) → map alone (map (cells_of s) ds) ≡ map row ds
-  tuples_alone [] = refl
-  tuples_alone (d ∷ ds) = ap (λ more. row d ∷ more) (tuples_alone ds)
+  abbrev most : Option ℕ
+  most = most_needed s.distinct (map (λ k. k.descending) s.keys) s.limit
 
   -- the answer over what is read of documents is the answer over the documents
   pub answered : (ds : List Fields) → answer_of_plan p (rows_read s ds) ≡ answer_among s ds
   answered ds =
-      let rows = ap (λ tuples. outputs (kept_by p.test tuples)) (tuples_alone ds) ∙ rows_by s.test p.test refl h.test ds in
-      λ i. finished (h.distinct i) (h.descending i) (h.limit i) (h.star i) (rows i)
+      let kept = filter (λ (d : Fields). is_kept s (sides d)) ds in
+      let rows = outputs (at_most most kept) ∙ ap (map (output_of s)) (at_most-map sides most kept) ∙ at_most-map (output_of s) most (map sides kept)
+          ∙ ap (λ (tuples : List (List (Option Fields))). at_most most (map (output_of s) tuples)) (sym (filter_made sides (is_kept s) ds)) in
+      (λ i. finished (h.distinct i) (h.descending i) (h.limit i) (h.star i) (rows i))
+      ∙ needed_alone s.distinct (map (λ k. k.descending) s.keys) s.limit s.star (map (output_of s) (filter (is_kept s) (tuples_of ds)))
+
+  -- a document is kept by the plan where the question keeps it
+  kept_by : (o : Option Term) (q : Option Expr) → ConditionResolves (scope_of s) p.refs o q → (d : Fields)
+      → passes q (row false d) ≡ option_map_or (λ t. keeps (truth_of (meaning (scope_of s) (sides d) t (Some kind.Bool)))) o true
+  kept_by None None r d = refl
+  kept_by None (Some q) r d = absurd r
+  kept_by (Some t) None r d = absurd r
+  kept_by (Some t) (Some q) r d = ap (λ (v : Option Value). keeps (truth_of v)) (means false d (Some kind.Bool) t q r)
+
+  -- what the plan reads is what the question reads
+  pub read_as_asked : (ds : List Fields) → rows_by p (columns_of s) ds ≡ rows_read s ds
+  read_as_asked ds =
+      let same = filter_agree (λ (d : Fields). passes p.test (row false d)) (λ (d : Fields). is_kept s (sides d)) (kept_by s.test p.test h.test) ds in
+      λ i. map (cells_under (columns_of s) (h.star i)) (at_most (most_needed (h.distinct i) (h.descending i) (h.limit i)) (same i))

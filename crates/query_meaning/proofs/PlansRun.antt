@@ -1,6 +1,6 @@
 -- A plan that can be run can be run over rows whose numbers are those of documents.
-use Rattle.std.proofs.Common.{◌≡◌, subst, ℕ, zero, suc, Bool, true, false, cond, List, [], ◌∷◌, length, map, Option, Some, None, option_and_then, slice_get}
-use Rattle.std.specs.Prelude.{All, IfSome, filter}
+use Rattle.std.proofs.Common.{◌≡◌, subst, ℕ, zero, suc, Bool, true, List, [], ◌∷◌, length, map, Option, Some, None, option_and_then, slice_get}
+use Rattle.std.specs.Prelude.{All, IfSome}
 use Rattle.std.specs.List.{AllByRecursion as EachIs}
 use Rattle.std.proofs.lemmas.List.Elements.{All-from_recursion, recursion_from_All}
 use Rattle.doc_values.specs.Value.{IsStorable}
@@ -11,22 +11,11 @@ use Rattle.sql_eval.specs.declared.expr.Expr.{Expr}
 use Rattle.sql_eval.specs.declared.key_plan.KeyPlan.{KeyPlan}
 use Rattle.sql_eval.specs.declared.select_plan.SelectPlan.{SelectPlan}
 use Rattle.row_columns.specs.Contents.{Cells}
-use Rattle.sql_eval.specs.Resolved.{value_over}
-use Rattle.sql_eval.specs.Truth.{truth_of}
 use Rattle.sql_eval.specs.Widths.{width_of, IsStorableTuple, CanEvaluate}
 use Rattle.type_rules.specs.Plan.{IsPlanOf}
 use Rattle.type_rules.specs.Runnable.{IsComputed, CanBeRun}
-use Rattle.exec_join.specs.Filter.{keeps}
-use Rattle.query_meaning.specs.Plans.{alone, kept_by}
-use Rattle.query_meaning.specs.Runs.{IsStorableRow, CanRunOver}
-
-EachIs-cond : {A : Type 0} (P : A → Type 0) (t : Bool) (xs ys : List A) → EachIs P xs → EachIs P ys → EachIs P (cond t xs ys)
-EachIs-cond P true xs ys h k = h
-EachIs-cond P false xs ys h k = k
-
-EachIs-filter : {A : Type 0} (P : A → Type 0) (Q : A → Bool) (xs : List A) → EachIs P xs → EachIs P (filter Q xs)
-EachIs-filter P Q [] h = tt
-EachIs-filter P Q (x ∷ xs) h = let rest = EachIs-filter P Q xs h.1 in EachIs-cond P (Q x) (x ∷ filter Q xs) (filter Q xs) (h.0, rest) rest
+use Rattle.query_meaning.specs.Plans.{alone, tuples_over}
+use Rattle.query_meaning.specs.Runs.{IsStorableRow, CanBeTested, CanRunOver}
 
 cell_storable : (cells : List (Option Value)) → EachIs (λ cell. IfSome cell IsStorable) cells → (k : ℕ) → IfSome (option_and_then (λ cell. cell) (slice_get cells k)) IsStorable
 cell_storable [] h k = tt
@@ -62,32 +51,23 @@ each_alone : (P : List (Option Cells) → Type 0) → ((row : Cells) → IsStora
 each_alone P f [] h = tt
 each_alone P f (row ∷ rows) h = (f row h.0, each_alone P f rows h.1)
 
--- a condition can be computed over each tuple of one row
-test_evaluates : (s : Select) (p : SelectPlan) → IsPlanOf s p → (o : Option Expr) → IfSome o (IsComputed p.refs) → (rows : List Cells) → All IsStorableRow rows → IfSome o (λ e. All (λ tuple. CanEvaluate tuple e) (map alone rows))
-test_evaluates s p h None c rows storable = tt
-test_evaluates s p h (Some e) c rows storable =
-    All-from_recursion (λ tuple. CanEvaluate tuple e) (map alone rows) (each_alone (λ tuple. CanEvaluate tuple e) (evaluates s p h e c) rows (recursion_from_All IsStorableRow rows storable))
+-- the condition can be computed over a row
+pub test_run : (s : Select) (p : SelectPlan) → IsPlanOf s p → CanBeRun p → CanBeTested p
+test_run s p h runs row storable = by p.test runs.test
+  where
+    by : (o : Option Expr) → IfSome o (IsComputed p.refs) → IfSome o (CanEvaluate (alone row))
+    by None c = tt
+    by (Some e) c = evaluates s p h e c row storable
 
-each_kept : (P : List (Option Cells) → Type 0) (o : Option Expr) (tuples : List (List (Option Cells))) → EachIs P tuples → EachIs P (kept_by o tuples)
-each_kept P None tuples h = h
-each_kept P (Some e) tuples h = EachIs-filter P (λ (tuple : List (Option Cells)). keeps (truth_of (value_over tuple e))) tuples h
+all_alone : (P : List (Option Cells) → Type 0) (rows : List Cells) → ((row : Cells) → IsStorableRow row → P (alone row)) → All IsStorableRow rows → All P (tuples_over rows)
+all_alone P rows f storable = All-from_recursion P (tuples_over rows) (each_alone P f rows (recursion_from_All IsStorableRow rows storable))
 
-all_kept_by : (P : List (Option Cells) → Type 0) (o : Option Expr) (rows : List Cells) → ((row : Cells) → IsStorableRow row → P (alone row)) → All IsStorableRow rows → All P (kept_by o (map alone rows))
-all_kept_by P o rows f storable = All-from_recursion P (kept_by o (map alone rows)) (each_kept P o (map alone rows) (each_alone P f rows (recursion_from_All IsStorableRow rows storable)))
-
--- items can be computed over each tuple that is kept
-items_evaluate : (s : Select) (p : SelectPlan) → IsPlanOf s p → (o : Option Expr) → All (IsComputed p.refs) p.items → (rows : List Cells) → All IsStorableRow rows → All (λ tuple. All (CanEvaluate tuple) p.items) (kept_by o (map alone rows))
-items_evaluate s p h o c rows storable =
-    all_kept_by (λ tuple. All (CanEvaluate tuple) p.items) o rows
-    (λ row w. All-from_recursion (CanEvaluate (alone row)) p.items (each_evaluates s p h p.items (recursion_from_All (IsComputed p.refs) p.items c) row w)) storable
-
--- and so can keys
-keys_evaluate : (s : Select) (p : SelectPlan) → IsPlanOf s p → (o : Option Expr) → All (λ (k : KeyPlan). IsComputed p.refs k.expr) p.keys → (rows : List Cells) → All IsStorableRow rows → All (λ tuple. All (λ (k : KeyPlan). CanEvaluate tuple k.expr) p.keys) (kept_by o (map alone rows))
-keys_evaluate s p h o c rows storable =
-    all_kept_by (λ tuple. All (λ (k : KeyPlan). CanEvaluate tuple k.expr) p.keys) o rows
-    (λ row w. All-from_recursion (λ (k : KeyPlan). CanEvaluate (alone row) k.expr) p.keys (each_key_evaluates s p h p.keys (recursion_from_All (λ (k : KeyPlan). IsComputed p.refs k.expr) p.keys c) row w)) storable
-
--- a plan that can be run can be run over rows
+-- items and keys can be computed over each row
 pub run_over : (s : Select) (p : SelectPlan) → IsPlanOf s p → CanBeRun p → (rows : List Cells) → All IsStorableRow rows → CanRunOver p rows
 run_over s p h runs rows storable =
-    record { test = test_evaluates s p h p.test runs.test rows storable; items = items_evaluate s p h p.test runs.items rows storable; keys = keys_evaluate s p h p.test runs.keys rows storable }
+    record {
+      items = all_alone (λ tuple. All (CanEvaluate tuple) p.items) rows
+          (λ row w. All-from_recursion (CanEvaluate (alone row)) p.items (each_evaluates s p h p.items (recursion_from_All (IsComputed p.refs) p.items runs.items) row w)) storable;
+      keys = all_alone (λ tuple. All (λ (k : KeyPlan). CanEvaluate tuple k.expr) p.keys) rows
+          (λ row w. All-from_recursion (λ (k : KeyPlan). CanEvaluate (alone row) k.expr) p.keys (each_key_evaluates s p h p.keys (recursion_from_All (λ (k : KeyPlan). IsComputed p.refs k.expr) p.keys runs.keys) row w)) storable;
+    }

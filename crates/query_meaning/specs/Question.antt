@@ -27,6 +27,10 @@ tuples_of documents = map (λ d. Some d ∷ []) documents
 abbrev pub is_kept : Select → Tuple → Bool
 is_kept s tuple = option_map_or (λ t. keeps (truth_of (meaning (scope_of s) tuple t (Some kind.Bool)))) s.test true
 
+-- The documents of a table that the condition of a question keeps, in their order.
+abbrev pub documents_kept : Select → List Fields → List Fields
+documents_kept s documents = filter (λ d. is_kept s (Some d ∷ [])) documents
+
 -- What terms mean over a tuple, in places that want no kind.
 abbrev pub values_of : Select → Tuple → List Term → List (Option Value)
 values_of s tuple terms = map (λ t. meaning (scope_of s) tuple t None) terms

@@ -1,32 +1,35 @@
-ghost use Rattle.std.specs.Prelude.{◌≡◌, All, IfOk, IfSome};
-ghost use Rattle.sql_eval.specs.Widths.{CanEvaluate};
-ghost use Rattle.query_meaning.specs.Plans.{answer_of_plan, kept_by};
+ghost use Rattle.std.specs.Prelude.{◌≡◌, IfOk, None, map, if◌then◌else◌};
+ghost use Rattle.query_meaning.specs.Plans.{answer_of_plan, most_needed};
 ghost use Rattle.query_meaning.specs.Runs.{CanRunOver};
 
 use doc_values::Bytes;
 use exec_finish::plain_answer;
-use exec_join::filter;
 use sql_eval::{SelectPlan, TableRows, Tuples};
 use std::alloc::AllocError;
 
-/// The answer of a plan over the rows of its table.
+/// The answer of a plan over rows of its table of which its condition is true.
 pub fn answer(plan: &SelectPlan, rows: TableRows) -> Result<Bytes, AllocError>
     requires { CanRunOver plan.now rows }
     ensures ok { IfOk result (λ body. body ≡ answer_of_plan plan.now rows) }
 {
     let alloc = rows.allocator();
     let tuples = Tuples::over(alloc, rows)?;
-    let kept = kept(plan, tuples);
-    plain_answer(alloc, plan, &kept)
+    plain_answer(alloc, plan, &tuples)
 }
 
-// The tuples that the condition keeps, if there is one; else all.
-fn kept(plan: &SelectPlan, tuples: Tuples) -> Tuples
-    requires { IfSome plan.now.test (λ test. All (λ tuple. CanEvaluate tuple test) tuples) }
-    ensures exact { result ≡ kept_by plan.now.test tuples }
+/// How many rows the answer needs at most. None where each that the condition keeps may change it.
+pub fn most_needed(plan: &SelectPlan) -> Option<u64>
+    ensures exact { result ≡ most_needed plan.now.distinct (map (λ k. k.descending) plan.now.keys) plan.now.limit }
 {
-    match &plan.test {
-        Some(test) => filter(test, tuples),
-        None => tuples,
+    match plan.keys.as_slice() {
+        [] => limit_of_all(plan.distinct, plan.limit),
+        _ => None,
     }
+}
+
+// The limit of rows that are not put in order: where they are told apart, alike ones take no place.
+fn limit_of_all(distinct: bool, limit: Option<u64>) -> Option<u64>
+    ensures exact { result ≡ (if distinct then None else limit) }
+{
+    if distinct { None } else { limit }
 }

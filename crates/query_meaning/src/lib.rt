@@ -8,5 +8,5 @@
 mod answering;
 mod plan_laws;
 
-pub use answering::answer;
-pub use plan_laws::{plans_can_be_run, plans_keep_meaning};
+pub use answering::{answer, most_needed};
+pub use plan_laws::{plans_can_be_run, plans_keep_meaning, plans_read_what_is_asked};

@@ -5,9 +5,10 @@ ghost use Rattle.row_columns.specs.Contents.{Cells};
 ghost use Rattle.sql_eval.specs.declared.select_plan.SelectPlan.{SelectPlan};
 ghost use Rattle.type_rules.specs.Plan.{IsPlanOf};
 ghost use Rattle.type_rules.specs.Runnable.{CanBeRun};
+ghost use Rattle.type_rules.specs.Uses.{columns_of};
 ghost use Rattle.query_meaning.specs.Question.{answer_among};
-ghost use Rattle.query_meaning.specs.Plans.{rows_read, answer_of_plan};
-ghost use Rattle.query_meaning.specs.Runs.{IsStorableRow, CanRunOver};
+ghost use Rattle.query_meaning.specs.Plans.{rows_read, rows_by, answer_of_plan};
+ghost use Rattle.query_meaning.specs.Runs.{IsStorableRow, CanBeTested, CanRunOver};
 
 use sql_eval::resolving_keeps_meaning;
 
@@ -19,8 +20,18 @@ pub fn plans_keep_meaning()
     resolving_keeps_meaning();
 }
 
-/// Law: a plan of a question that can be run can be run over each list of rows whose numbers are those of documents.
+/// Law: what a plan reads of documents over the columns of its question is what the question reads of them.
+pub fn plans_read_what_is_asked()
+    ensures law { (question : Select) (plan : SelectPlan) → IsPlanOf question plan → (documents : List Fields)
+        → rows_by plan (columns_of question) documents ≡ rows_read question documents }
+{
+    resolving_keeps_meaning();
+}
+
+/// Law: the condition of a plan of a question that can be run can be computed over each row whose numbers are those of
+/// documents, and over each list of such rows the plan can be run.
 pub fn plans_can_be_run()
+    ensures tested { (question : Select) (plan : SelectPlan) → IsPlanOf question plan → CanBeRun plan → CanBeTested plan }
     ensures law { (question : Select) (plan : SelectPlan) → IsPlanOf question plan → CanBeRun plan → (rows : List Cells) → All IsStorableRow rows
         → CanRunOver plan rows }
 {}
