@@ -134,7 +134,7 @@ module _ (law : RecordsAreDocuments) (attributes : List Attribute) (once : IsOnc
       let document = document_stored (pairs_of attributes) in
       let keep = λ (d : Fields). passes p.test (alone (cells_under columns false d)) in
       rows_found columns p.star (at_most most (filter (is_kept_along (map (path_of attributes) columns) p.test) records))
-          (All-at_most (IsKept (pairs_of attributes)) most (filter (is_kept_along (map (path_of attributes) columns) p.test) records) (All-filter (is_kept_along (map (path_of attributes) columns) p.test) (IsKept (pairs_of attributes)) records kept))
+      (All-at_most (IsKept (pairs_of attributes)) most (filter (is_kept_along (map (path_of attributes) columns) p.test) records) (All-filter (is_kept_along (map (path_of attributes) columns) p.test) (IsKept (pairs_of attributes)) records kept))
       ∙ ap (λ (rs : List (List Field)). map (cells_under columns p.star) (map document (at_most most rs))) (kept_found columns p.test records kept)
       ∙ ap (map (cells_under columns p.star)) (at_most-map document most (filter (λ (fs : List Field). keep (document fs)) records) ∙ ap (at_most most) (sym (filter_made document keep records)))
 

@@ -80,7 +80,11 @@ impl Table {
 
     /// The rows that a plan reads: of the documents that its condition keeps, as many as its answer needs, each with a
     /// value, or NULL, for each column, and with the document where whole ones are asked for.
-    pub(crate) fn rows(&self, plan: &SelectPlan, columns: &[ColRef]) -> Result<TableRows, AllocError>
+    pub(crate) fn rows(
+        &self,
+        plan: &SelectPlan,
+        columns: &[ColRef],
+    ) -> Result<TableRows, AllocError>
         requires ordered { All (λ row. IsDocument row.document) self.now.rows }
         requires tested { CanBeTested plan.now }
         ensures ok { IfOk result (λ rows. rows ≡ rows_by plan.now columns.now (map (λ row. row.document) self.now.rows)) }

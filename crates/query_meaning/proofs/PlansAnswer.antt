@@ -127,7 +127,7 @@ module _ (law : KeepsMeaning) (s : Select) (p : SelectPlan) (h : IsPlanOf s p) w
   answered ds =
       let kept = filter (λ (d : Fields). is_kept s (sides d)) ds in
       let rows = outputs (at_most most kept) ∙ ap (map (output_of s)) (at_most-map sides most kept) ∙ at_most-map (output_of s) most (map sides kept)
-          ∙ ap (λ (tuples : List (List (Option Fields))). at_most most (map (output_of s) tuples)) (sym (filter_made sides (is_kept s) ds)) in
+      ∙ ap (λ (tuples : List (List (Option Fields))). at_most most (map (output_of s) tuples)) (sym (filter_made sides (is_kept s) ds)) in
       (λ i. finished (h.distinct i) (h.descending i) (h.limit i) (h.star i) (rows i))
       ∙ needed_alone s.distinct (map (λ k. k.descending) s.keys) s.limit s.star (map (output_of s) (filter (is_kept s) (tuples_of ds)))
 

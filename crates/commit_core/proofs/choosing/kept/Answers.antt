@@ -25,7 +25,7 @@ returns c =
     let cut = ap (map (λ r. r.now)) c.truncate.ensures.items ∙ sym (take-map (λ r. r.now) c.args.most sofar) ∙ ap (take c.args.most) c.loop-start.invariant.1 in
     elim c.loop-start-test.branch [
       | then-loop-start-test+else-len-most w ↦
-        record { ok = cut ∙ front_needed p c.args.most start records (omega (arith, ap length (sym c.loop-start.invariant.1), length-map sofar (λ r. r.now))) }
+          record { ok = cut ∙ front_needed p c.args.most start records (omega (arith, ap length (sym c.loop-start.invariant.1), length-map sofar (λ r. r.now))) }
       | else-loop-start-test w ↦
-        record { ok = cut ∙ ap (λ xs. take c.args.most (filter p xs)) (take_all start records (omega arith)) }
+          record { ok = cut ∙ ap (λ xs. take c.args.most (filter p xs)) (take_all start records (omega arith)) }
     ]

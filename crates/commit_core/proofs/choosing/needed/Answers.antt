@@ -15,7 +15,7 @@ returns-in-Some c =
     let most = most_needed plan.distinct (map (λ (k : KeyPlan). k.descending) plan.keys) plan.limit in
     let p = is_kept_along paths (Some c.in-Some.test) in
     let same = ap (λ n. take n (filter p records)) c.count_needed-most.ensures.exact ∙ admitted_first most (length records) (filter p records) (fewer_pass p records)
-        ∙ ap (λ o. at_most most (filter (is_kept_along paths o) records)) (sym c.in-Some.is) in
+    ∙ ap (λ o. at_most most (filter (is_kept_along paths o) records)) (sym c.in-Some.is) in
     record { ok = IfOk-weaker c.kept.result _ _ (λ kept h. h ∙ same) c.kept.ensures.ok }
 
 pub returns-in-None : goal.returns-in-None
@@ -25,5 +25,5 @@ returns-in-None c =
     let paths = c.args.paths.now in
     let most = most_needed plan.distinct (map (λ (k : KeyPlan). k.descending) plan.keys) plan.limit in
     let same = ap (λ n. take n records) c.count_needed-most.ensures.exact ∙ admitted_first most (length records) records (omega arith) ∙ ap (at_most most) (sym (all_pass records))
-        ∙ ap (λ o. at_most most (filter (is_kept_along paths o) records)) (sym c.in-None.is) in
+    ∙ ap (λ o. at_most most (filter (is_kept_along paths o) records)) (sym c.in-None.is) in
     record { ok = IfOk-weaker c.first.result _ _ (λ first h. h ∙ same) c.first.ensures.ok }

@@ -109,6 +109,6 @@ returns c =
     let chosen = at_most most (filter p records) in
     let needed = ap (map (λ r. r.now)) c.deref-4.ensures.value ∙ c.in_ok-needed.ensures.ok ∙ (λ i. at_most most (filter (is_kept_along (paths_is i) plan.test) (c.deref-2.ensures.value i))) in
     let same = (λ i. map (row_along attributes ((c.deref-3.ensures.value ∙ c.in_ok-paths.ensures.ok) i) plan.star) (needed i))
-        ∙ needed_found law attributes once plan columns most records kept
-        ∙ ap (rows_by plan columns) (sym (documents-rows_from 0 (map (document_stored (pairs_of attributes)) records))) in
+    ∙ needed_found law attributes once plan columns most records kept
+    ∙ ap (rows_by plan columns) (sym (documents-rows_from 0 (map (document_stored (pairs_of attributes)) records))) in
     record { ok = rw (← c.self.view_is) (IfOk-weaker c.rows_along.result _ _ (λ rows h. h ∙ same) c.rows_along.ensures.ok) }
