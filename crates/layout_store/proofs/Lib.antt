@@ -1,0 +1,9 @@
+mod Attributes
+mod Entries
+mod Fields
+mod HeldNumbers
+mod Pairs
+mod RecordFields
+mod Same
+mod Sides
+mod Stays
