@@ -1,7 +1,6 @@
 -- The fields of what is held under the numbers below a bound.
-use Rattle.std.proofs.Common.{◌≡◌, ◌≢◌, ℕ, zero, suc, ◌+◌, ◌<◌, ◌≤◌, ◌==◌, nat_lt, Bool, true, false, cond, List, [], ◌∷◌, ◌++◌, length, Option, Some, None, slice_get, refl, sym, ap, subst, ◌∙◌, arith, length-append}
+use Rattle.std.proofs.Common.{◌≡◌, ℕ, zero, suc, ◌+◌, ◌<◌, ◌≤◌, ◌==◌, nat_lt, Bool, true, false, cond, List, [], ◌∷◌, ◌++◌, length, Option, Some, None, refl, sym, ap, subst, ◌∙◌, arith, length-append}
 use Rattle.std.specs.Option.{option_or}
-use Rattle.std.specs.List.{flat_map}
 use Rattle.std.proofs.lemmas.Bool.Decides.{nat_tests}
 use Rattle.reservoir_record.specs.declared.fields.Field.{Field}
 use Rattle.reservoir_record.specs.Finding.{value_of}
@@ -55,12 +54,12 @@ value-below under zero id lt = absurd (omega arith)
 value-below under (suc n) id lt =
     value-append id (fields_below under n) (field_if n (under n))
     ∙ equal_or_not n id (option_or (value_of id (fields_below under n)) (value_of id (field_if n (under n))) ≡ under id)
-      (λ same.
-        ap (λ (o : Option (List ℕ)). option_or o (value_of id (field_if n (under n)))) (value-past under n id (omega arith))
-        ∙ ap (λ (m : ℕ). value_of id (field_if m (under m))) same ∙ one_here id (under id))
-      (λ ne.
-        ap (λ (o : Option (List ℕ)). option_or (value_of id (fields_below under n)) o) (one_other id n (under n) ne)
-        ∙ or_none (value_of id (fields_below under n)) ∙ value-below under n id (omega (arith, ne_lt n id lt ne)))
+    (λ same.
+    ap (λ (o : Option (List ℕ)). option_or o (value_of id (field_if n (under n)))) (value-past under n id (omega arith))
+    ∙ ap (λ (m : ℕ). value_of id (field_if m (under m))) same ∙ one_here id (under id))
+    (λ ne.
+    ap (λ (o : Option (List ℕ)). option_or (value_of id (fields_below under n)) o) (one_other id n (under n) ne)
+    ∙ or_none (value_of id (fields_below under n)) ∙ value-below under n id (omega (arith, ne_lt n id lt ne)))
   where
     ne_lt : (n id : ℕ) → id < suc n → (n ≡ id → ⊥) → id < n
     ne_lt n id lt ne = lt_by (nat_lt id n) refl
@@ -138,19 +137,19 @@ below_none (f ∷ fs) least n h le = let e : nat_lt f.id n ≡ false = let ge : 
 
 one_more : (fs : List Field) (least n : ℕ) → Ascends least fs → below (suc n) fs ≡ below n fs ++ field_if n (value_of n fs)
 one_more [] least n h = refl
-one_more (f ∷ fs) least n h = by (nat_lt f.id n) (nat_lt f.id (suc n)) refl refl
+one_more (f ∷ fs) least n h = by (one_more fs (f.id + 1) n h.2) (nat_lt f.id n) (nat_lt f.id (suc n)) refl refl
   where
-    by : (s t : Bool) → nat_lt f.id n ≡ s → nat_lt f.id (suc n) ≡ t → below (suc n) (f ∷ fs) ≡ below n (f ∷ fs) ++ field_if n (value_of n (f ∷ fs))
-    by true true e d =
+    by : below (suc n) fs ≡ below n fs ++ field_if n (value_of n fs) → (s t : Bool) → nat_lt f.id n ≡ s → nat_lt f.id (suc n) ≡ t → below (suc n) (f ∷ fs) ≡ below n (f ∷ fs) ++ field_if n (value_of n (f ∷ fs))
+    by rest true true e d =
         let lt : f.id < n = grind (arith, nat_tests) in
-        rw (e, d, value-later n f fs (λ same. omega arith)) (ap (λ xs. f ∷ xs) (one_more fs (f.id + 1) n h.2))
-    by true false e d = absurd (let lt : f.id < n = grind (arith, nat_tests) in let ge : suc n ≤ f.id = grind (arith, nat_tests) in omega arith)
-    by false true e d =
+        rw (e, d, value-later n f fs (λ same. omega arith)) (ap (λ xs. f ∷ xs) rest)
+    by rest true false e d = absurd (let lt : f.id < n = grind (arith, nat_tests) in let ge : suc n ≤ f.id = grind (arith, nat_tests) in omega arith)
+    by rest false true e d =
         let ge : n ≤ f.id = grind (arith, nat_tests) in
         let le : f.id < suc n = grind (arith, nat_tests) in
         let same : f.id ≡ n = omega arith in
         rw (e, d, value-here n f fs same, below_none fs (f.id + 1) (suc n) h.2 (omega arith), below_none fs (f.id + 1) n h.2 (omega arith)) (λ i. record { id = same i; bytes = f.bytes } ∷ [])
-    by false false e d =
+    by rest false false e d =
         let ge : suc n ≤ f.id = grind (arith, nat_tests) in
         rw (e, d, value-later n f fs (λ same. omega arith), value-low fs (f.id + 1) n h.2 (omega arith), below_none fs (f.id + 1) (suc n) h.2 (omega arith), below_none fs (f.id + 1) n h.2 (omega arith)) refl
 

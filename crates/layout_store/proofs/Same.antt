@@ -1,10 +1,10 @@
 -- Where the same is held, documents keep their rules, and rows show the same.
-use Rattle.std.proofs.Common.{◌≡◌, ℕ, List, Option, option_map, refl, sym, ap, subst, ◌∙◌}
+use Rattle.std.proofs.Common.{◌≡◌, ℕ, List, Option, option_map, sym, subst}
 use Rattle.row_versions.specs.History.{History, visible}
 use Rattle.document_records.specs.StoredDocument.{Pairs, pairs_of}
 use Rattle.layout_store.specs.Storage.{Storage, held}
 use Rattle.layout_store.specs.Documents.{counts_of, document_of, AreDocuments}
-use Rattle.layout_store.specs.Shows.{shown, ShowsTheSame, HoldsTheSame}
+use Rattle.layout_store.specs.Shows.{ShowsTheSame, HoldsTheSame}
 
 pub documents-as : (p q : Pairs) (c d : List ℕ) (h k : History) (u w : ℕ → ℕ → Option (List ℕ)) → q ≡ p → d ≡ c → k ≡ h → ((v i : ℕ) → w v i ≡ u v i) → AreDocuments p c h u → AreDocuments q d k w
 documents-as p q c d h k u w pairs counts history held kept =

@@ -1,15 +1,12 @@
 -- Where values stand after a change of one attribute, and after a move.
-use Rattle.std.proofs.Common.{◌≡◌, ℕ, ◌+◌, ◌<◌, ◌≤◌, ◌==◌, Bool, true, false, cond, List, [], length, set, Option, Some, None, IfSome, IsSome, is_some, unwrap_or, slice_get, refl, sym, ap, subst, ◌∙◌, arith, length-set}
-use Rattle.std.proofs.lemmas.Option.{same_Some, none-some, slice_get_within}
-use Rattle.doc_values.specs.Value.{kind_of, IsStorable}
+use Rattle.std.proofs.Common.{◌≡◌, ℕ, ◌<◌, ◌≤◌, List, [], length, set, Option, Some, None, IfSome, unwrap_or, slice_get, refl, sym, ap, subst, ◌∙◌}
+use Rattle.std.proofs.lemmas.Option.{same_Some}
 use Rattle.doc_values.specs.declared.value.Value.{Value}
 use Rattle.reservoir_record.specs.declared.fields.Field.{Field}
-use Rattle.reservoir_record.specs.Finding.{value_of}
 use Rattle.attr_catalog.specs.Attribute.{Attribute}
 use Rattle.attr_catalog.specs.declared.home.Home.{Home}
 use Rattle.row_versions.specs.History.{History}
-use Rattle.row_versions.proofs.Places.{get-within, get-set_same, get-set_other}
-use Rattle.phys_columns.specs.Cells.{Cells}
+use Rattle.row_versions.proofs.Places.{get-set_same, get-set_other}
 use Rattle.layout_store.specs.Storage.{Storage, record_at, in_record, in_cell}
 use Rattle.layout_store.specs.Placed.{IsAtHome, IsHome, clean_below, IsCelled, ArePlaced}
 use Rattle.layout_store.specs.Changes.{AreChanged}
@@ -76,11 +73,11 @@ placed-moved to id version before after a at home m h =
           (λ v i ne bytes e. m.cells v i ne ∙ h.apart v i bytes (sym (m.records v i ne) ∙ e));
       home = place_or (λ v i. (b : Attribute) → slice_get after.attributes i ≡ Some b → v < clean_below (length after.history.versions) b → IsHome b.home after v i) version id
           (λ b there lt.
-            let same : b ≡ a = same_Some b a (sym there ∙ ap (λ (xs : List Attribute). slice_get xs id) m.attributes ∙ at) in
-            subst (λ (t : Home). IsHome t after version id) (sym home ∙ ap (λ (x : Attribute). x.home) (sym same)) m.there)
+          let same : b ≡ a = same_Some b a (sym there ∙ ap (λ (xs : List Attribute). slice_get xs id) m.attributes ∙ at) in
+          subst (λ (t : Home). IsHome t after version id) (sym home ∙ ap (λ (x : Attribute). x.home) (sym same)) m.there)
           (λ v i ne b there lt.
-            let was = h.home v i b (ap (λ (xs : List Attribute). slice_get xs i) (sym m.attributes) ∙ there) (subst (λ (n : ℕ). v < clean_below n b) versions lt) in
-            subst (λ (c : Option Value). IsAtHome b.home (in_record after v i) c) (sym (m.cells v i ne)) (subst (λ (r : Option (List ℕ)). IsAtHome b.home r (in_cell before v i)) (sym (m.records v i ne)) was));
+          let was = h.home v i b (ap (λ (xs : List Attribute). slice_get xs i) (sym m.attributes) ∙ there) (subst (λ (n : ℕ). v < clean_below n b) versions lt) in
+          subst (λ (c : Option Value). IsAtHome b.home (in_record after v i) c) (sym (m.cells v i ne)) (subst (λ (r : Option (List ℕ)). IsAtHome b.home r (in_cell before v i)) (sym (m.records v i ne)) was));
       marks = λ i b there. subst (λ (n : ℕ). IfSome b.mark (λ c. c ≤ n)) (sym versions) (h.marks i b (ap (λ (xs : List Attribute). slice_get xs i) (sym m.attributes) ∙ there));
       celled = place_or (λ v i. (value : Value) → in_cell after v i ≡ Some value → IsCelled after.attributes i value) version id
           (λ value e. subst (λ (xs : List Attribute). IsCelled xs id value) (sym m.attributes) (m.celled value e))

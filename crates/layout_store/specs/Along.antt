@@ -1,5 +1,5 @@
 -- What a way leads to, and what a path does.
-use Rattle.std.specs.Prelude.{ℕ, List, [], ◌∷◌, Option, Some, None, option_map, slice_get}
+use Rattle.std.specs.Prelude.{ℕ, List, [], ◌∷◌, Option, None, option_map, slice_get}
 use Rattle.std.specs.Option.{option_map_or, option_or}
 use Rattle.doc_values.specs.declared.value.Value.{Value}
 use Rattle.reservoir_record.specs.declared.fields.Field.{Field}

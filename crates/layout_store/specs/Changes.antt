@@ -1,16 +1,16 @@
 -- What each call leaves of the storage.
-use Rattle.std.specs.Prelude.{◌≡◌, ℕ, ◌+◌, ◌==◌, ◌&&◌, Bool, List, [], ◌∷◌, ◌++◌, length, Option, Some, None, IfSome, is_some, slice_get, if◌then◌else◌}
+use Rattle.std.specs.Prelude.{◌≡◌, ℕ, ◌==◌, Bool, List, [], ◌∷◌, ◌++◌, length, Some, IfSome, is_some, slice_get, if◌then◌else◌}
 use Rattle.std.specs.Option.{option_map_or}
 use Rattle.doc_values.specs.Doc.{Fields}
 use Rattle.doc_values.specs.declared.attr_id.AttrId.{AttrId}
 use Rattle.reservoir_record.specs.declared.fields.Field.{Field}
-use Rattle.attr_catalog.specs.Attribute.{Attribute, fresh, raised, lowered, dirtied, advanced}
+use Rattle.attr_catalog.specs.Attribute.{Attribute, raised, lowered, dirtied, advanced}
 use Rattle.attr_catalog.specs.Catalog.{changed}
 use Rattle.attr_catalog.specs.declared.home.Home.{Home}
 use Rattle.attr_catalog.specs.declared.home.Home.TheVariants as home
 use Rattle.row_versions.specs.History.{begun, ended}
 use Rattle.row_versions.specs.History as history
-use Rattle.document_records.specs.StoredDocument.{Pairs, pairs_of}
+use Rattle.document_records.specs.StoredDocument.{pairs_of}
 use Rattle.layout_store.specs.Storage.{Storage, in_record, in_cell, held}
 use Rattle.layout_store.specs.Documents.{document_at}
 use Rattle.layout_store.specs.Numbering.{with_fields, HasGrown}
@@ -64,4 +64,4 @@ pub record HasAppended (row commit : ℕ) (document : Fields) (before after : St
   pub history : after.history ≡ record { versions = before.history.versions ++ begun row commit ∷ []; horizon = before.history.horizon }
   pub cells : after.cells ≡ before.cells
   pub attributes : AreChanged (λ id. written_if (length before.history.versions) (is_some (in_record after (length before.history.versions) id))) grown after.attributes
-  pub document : document_at after (length before.history.versions) ≡ document
+  pub whole : document_at after (length before.history.versions) ≡ document

@@ -13,7 +13,7 @@ use Rattle.reservoir_record.specs.Spelling.{AreFields, values}
 use Rattle.attr_catalog.specs.Attribute.{Attribute, fresh}
 use Rattle.document_records.specs.Limits.{most_weight}
 use Rattle.document_records.specs.StoredValue.{bytes_of, AreReadable}
-use Rattle.document_records.specs.StoredDocument.{Pairs, pairs_of, document_stored, IsKept}
+use Rattle.document_records.specs.StoredDocument.{Pairs, document_stored, IsKept}
 
 -- Two pairs of name and kind are the same.
 abbrev pub same_pair : List ℕ × Kind → List ℕ × Kind → Bool

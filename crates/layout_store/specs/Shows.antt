@@ -1,7 +1,6 @@
 -- What rows show at each number of commits, and what calls change of that.
-use Rattle.std.specs.Prelude.{◌≡◌, ◌≢◌, ℕ, ◌<◌, ◌≤◌, List, Option, Some, option_map, slice_get}
+use Rattle.std.specs.Prelude.{◌≡◌, ◌≢◌, ℕ, ◌<◌, ◌≤◌, Option, option_map}
 use Rattle.doc_values.specs.Doc.{Fields}
-use Rattle.attr_catalog.specs.Attribute.{Attribute}
 use Rattle.row_versions.specs.History.{visible}
 use Rattle.document_records.specs.StoredDocument.{pairs_of}
 use Rattle.layout_store.specs.Storage.{Storage, held}

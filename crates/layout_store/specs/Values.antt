@@ -1,5 +1,5 @@
 -- What is read of a version: the value of an attribute, and that of a name.
-use Rattle.std.specs.Prelude.{◌≡◌, ℕ, Bool, true, false, List, Option, Some, None, option_map, option_and_then, slice_get, if◌then◌else◌}
+use Rattle.std.specs.Prelude.{◌≡◌, ℕ, List, Option, Some, None, option_map, option_and_then, slice_get, if◌then◌else◌}
 use Rattle.std.specs.Option.{option_map_or}
 use Rattle.doc_values.specs.Doc.{Fields, value_at}
 use Rattle.doc_values.specs.Order.{same_kind}

@@ -1,6 +1,6 @@
-ghost use Rattle.std.specs.Prelude.{ℕ, List, ◌≡◌, ◌<◌, true, Some, None, IfSome, length, is_some, slice_get};
+ghost use Rattle.std.specs.Prelude.{ℕ, List, ◌≡◌, ◌<◌, true, Some, None, IfSome, length, is_some, slice_get, if◌then◌else◌};
 ghost use Rattle.reservoir_record.specs.Finding.{value_of};
-ghost use Rattle.attr_catalog.specs.Attribute.{Attribute};
+ghost use Rattle.attr_catalog.specs.Attribute.{Attribute, lowered};
 ghost use Rattle.attr_catalog.specs.Catalog.{changed, most_versions};
 ghost use Rattle.phys_columns.specs.Cells.{cell_at};
 ghost use Rattle.layout_store.specs.Storage.{either_side};
@@ -39,9 +39,18 @@ fn lower_cells(catalog: &mut Catalog, columns: &Columns, version: u32)
     ensures exact { AreChanged (λ id. lowered_if (is_some (cell_at id version columns.now.cells))) catalog.old catalog.new }
 {
     for id in 0..catalog.len() {
-        if columns.has(AttrId(id), version) {
-            catalog.lower(AttrId(id));
-        }
+        lower_cell(catalog, columns, version, AttrId(id));
+    }
+}
+
+// Counts one document fewer for an attribute, if it has a cell.
+fn lower_cell(catalog: &mut Catalog, columns: &Columns, version: u32, id: AttrId)
+    requires standing { id.0 < length catalog.old }
+    requires counted { is_some (cell_at id.0 version columns.now.cells) ≡ true → IfSome (slice_get catalog.old id.0) (λ a. 0 < a.count) }
+    ensures exact { catalog.new ≡ (if is_some (cell_at id.0 version columns.now.cells) then changed lowered id catalog.old else catalog.old) }
+{
+    if columns.has(id, version) {
+        catalog.lower(id);
     }
 }
 

@@ -1,4 +1,4 @@
-ghost use Rattle.std.specs.Prelude.{◌≡◌, ◌<◌, ◌≤◌, ◌⊎◌, ◌×◌, ℕ, List, Option, [], Some, None, Ok, Err, IfSome, IfOk, OnOk, OnErr, IsSome, length, slice_get, option_map};
+ghost use Rattle.std.specs.Prelude.{◌≡◌, ◌<◌, ◌≤◌, ◌+◌, ◌*◌, ◌⊎◌, ℕ, List, Option, [], Some, None, Ok, Err, IfSome, IfOk, OnOk, OnErr, IsSome, length, slice_get, option_map};
 ghost use Rattle.std.specs.FinMap as map;
 ghost use Rattle.doc_values.specs.Weight.{weight_of};
 ghost use Rattle.doc_values.specs.declared.kind.Kind.{Kind as KindOf};
@@ -16,14 +16,15 @@ ghost use Rattle.document_records.specs.StoredDocument.{pairs_of};
 
 use crate::counting::{lower_all, write_all};
 use crate::grow_fault::GrowFault;
-use crate::moving::{move_in, move_out};
+use crate::moving::{move_home, step_mark};
 use crate::numbering::record_of;
 use crate::pushing::push;
-use crate::reading::read_way;
+use crate::reading::read_path;
+use crate::whole::whole;
 use attr_catalog::{Catalog, Home, Path};
-use doc_values::{AttrId, Doc};
-use document_records::{Parts, Record};
-use phys_columns::{Columns, CompareInt, Mask};
+use doc_values::{AttrId, Doc, documents_are_maps};
+use document_records::{Parts, Record, records_are_their_documents, stored_values_are_told_apart};
+use phys_columns::{Columns, CompareInt, Mask, cells_are_a_map};
 use row_columns::ValueRef;
 use row_versions::{VersionId, Versions, appends_show, endings_show};
 use std::alloc::{AllocError, Global};
@@ -43,10 +44,14 @@ pub struct Layout {
 
 impl Model for Layout {
     ghost use Rattle.std.specs.Coded.{codes};
+    ghost use Rattle.std.specs.FinMap as map;
+    ghost use Rattle.doc_values.specs.contracts.value.Value as of_value;
     ghost use Rattle.layout_store.specs.Storage.{Storage};
     ghost use Rattle.layout_store.specs.Placed.{IsLayout};
 
     ghost Value = { Storage };
+
+    ghost coded = { Prim.hlevel (codes, map.code, of_value.the_row.coded) };
 
     ghost view = { λ l. record { attributes = l.catalog; history = l.versions; records = l.records.items; cells = l.columns.cells } };
 
@@ -65,11 +70,15 @@ impl Layout {
     pub fn new(alloc: Global) -> Layout
         ensures exact { result ≡ record { attributes = []; history = record { versions = []; horizon = 0 }; records = []; cells = map.empty } }
     {
+        let catalog = Catalog::new(alloc);
+        let versions = Versions::new(alloc);
+        let records = Vec::new(alloc);
+        let columns = Columns::new(alloc);
         Layout {
-            catalog: Catalog::new(alloc),
-            versions: Versions::new(alloc),
-            records: Vec::new(alloc),
-            columns: Columns::new(alloc),
+            catalog,
+            versions,
+            records,
+            columns,
             entries: Vec::new(alloc),
             parts: Parts::new(alloc),
         }
@@ -102,13 +111,24 @@ impl Layout {
         requires lawful { IsLawful self.now.attributes path.now }
         ensures exact { (name : List ℕ) (wanted : Option KindOf) → path.now ≡ lawful_path name wanted self.now.attributes → option_map owned result ≡ value_wanted name wanted (document_at self.now version.0) }
     {
-        let record = &self.records[version.0 as usize];
-        for way in path.ways() {
-            if let Some(value) = read_way(&self.catalog, record, &self.columns, version.0, *way) {
-                return Some(value);
-            }
-        }
-        None
+        records_are_their_documents();
+        stored_values_are_told_apart();
+        self.catalog.keeps_the_rules();
+        let stored = &self.records[version.0 as usize];
+        read_path(&self.catalog, stored, &self.columns, version.0, path.ways())
+    }
+
+    /// The version's document.
+    pub fn doc(&self, version: VersionId) -> Result<Doc, AllocError>
+        requires standing { version.0 < length self.now.history.versions }
+        ensures ok { IfOk result (λ document. document ≡ document_at self.now version.0) }
+    {
+        documents_are_maps();
+        let alloc = *self.records.allocator();
+        let stored = &self.records[version.0 as usize];
+        let document = whole(alloc, &self.catalog, stored, &self.columns, version.0)?;
+        let _kept = document.len();
+        Ok(document)
     }
 
     /// A bit for each version of a page: whether its document has a number of the attribute that meets the comparison.
@@ -117,6 +137,7 @@ impl Layout {
         requires standing { id.0 < length self.now.attributes }
         ensures exact { (w j : ℕ) → w < 16 → j < 64 → is_bit result.words w j ≡ is_met test (value_held self.now (1024 * page + (64 * w + j)) id.0) }
     {
+        stored_values_are_told_apart();
         self.columns.filter_page(id, page, test)
     }
 
@@ -148,16 +169,15 @@ impl Layout {
         ensures shows { ShowsTheSame self.old self.new }
         ensures memory { OnErr result (self.new ≡ self.old) }
     {
+        cells_are_a_map();
+        self.versions.keeps_order();
+        self.catalog.keeps_the_rules();
         let alloc = *self.records.allocator();
         let kind = self.catalog.kind(id);
-        let record = &mut self.records[version.0 as usize];
-        match self.catalog.home(id) {
-            Home::Column => move_out(alloc, kind, record, &mut self.columns, id, version.0)?,
-            Home::Reservoir => move_in(record, &mut self.columns, id, version.0)?,
-        }
-        if self.catalog.clean_to(id) == version.0 {
-            self.catalog.advance(id);
-        }
+        let home = self.catalog.home(id);
+        let stored = &mut self.records[version.0 as usize];
+        move_home(alloc, home, kind, stored, &mut self.columns, id, version.0)?;
+        step_mark(&mut self.catalog, id, version.0);
         Ok(())
     }
 
@@ -169,12 +189,23 @@ impl Layout {
         ensures shows { IfSome (slice_get self.old.history.versions version.0) (λ v. HasWritten commit v.row None self.old self.new) }
     {
         endings_show();
-        lower_all(&mut self.catalog, &self.records[version.0 as usize], &self.columns, version.0);
+        self.versions.keeps_order();
+        lower_all(
+            &mut self.catalog,
+            &self.records[version.0 as usize],
+            &self.columns,
+            version.0,
+        );
         self.versions.end_at(version, commit);
     }
 
     /// Adds a version of a row, with its document whole in its record.
-    pub fn add_version(&mut self, row: u32, document: &Doc, commit: u64) -> Result<VersionId, GrowFault>
+    pub fn add_version(
+        &mut self,
+        row: u32,
+        document: &Doc,
+        commit: u64,
+    ) -> Result<VersionId, GrowFault>
         requires row { row ≤ rows_of self.old.history.versions }
         requires latest { IsLatest commit self.old.history.versions }
         requires ended { newest row self.old.history.versions ≡ None }
@@ -188,13 +219,19 @@ impl Layout {
         ensures kept { OnErr result (self.new ≡ self.old) }
     {
         appends_show();
+        self.versions.keeps_order();
+        let _kept = document.len();
         let alloc = *self.records.allocator();
         let attributes = self.catalog.len();
         let catalog = &mut self.catalog;
         match record_of(alloc, catalog, document, &mut self.entries, &mut self.parts) {
             Ok(record) => match push(&mut self.versions, &mut self.records, record, row, commit) {
                 Ok(version) => {
-                    write_all(&mut self.catalog, &self.records[version.0 as usize], version.0);
+                    write_all(
+                        &mut self.catalog,
+                        &self.records[version.0 as usize],
+                        version.0,
+                    );
                     Ok(version)
                 }
                 Err(fault) => {

@@ -13,6 +13,7 @@ mod moving;
 mod numbering;
 mod pushing;
 mod reading;
+mod whole;
 
 pub use grow_fault::GrowFault;
 pub use layout::Layout;

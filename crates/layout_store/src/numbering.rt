@@ -24,6 +24,7 @@ pub(crate) fn record_of(
     requires light { weight_of document.now ≤ most_weight }
     ensures grown { HasGrown catalog.old catalog.new }
     ensures pairs { OnOk result (pairs_of catalog.new ≡ with_fields (pairs_of catalog.old) document.now) }
+    ensures within { OnOk result (length (with_fields (pairs_of catalog.old) document.now) ≤ most_attributes) }
     ensures ok { IfOk result (λ fields. IsRecordOf (pairs_of catalog.new) document.now fields) }
     ensures full { result ≡ Err GrowFault.Full → most_attributes < length (with_fields (pairs_of catalog.old) document.now) }
 {

@@ -1,10 +1,10 @@
-ghost use Rattle.std.specs.Prelude.{◌≡◌, ◌≤◌, [], ◌∷◌, ◌++◌, Err, length, IfOk, OnOk, OnErr};
+ghost use Rattle.std.specs.Prelude.{◌≡◌, ◌≤◌, ◌<◌, [], ◌∷◌, ◌++◌, Err, length, IfOk, OnOk, OnErr};
 ghost use Rattle.row_versions.specs.History.{most_versions, rows_of, newest, begun, version_at};
 ghost use Rattle.row_versions.specs.Order.{IsLatest};
 
 use crate::grow_fault::GrowFault;
 use document_records::Record;
-use row_versions::{AppendFault, VersionId, Versions};
+use row_versions::{AppendFault, MOST_VERSIONS, VersionId, Versions};
 
 /// Puts a version behind the others, with its record, or neither.
 pub(crate) fn push(
@@ -20,12 +20,15 @@ pub(crate) fn push(
     ensures versions { OnOk result (versions.new ≡ record { versions = versions.old.versions ++ begun row commit ∷ []; horizon = versions.old.horizon }) }
     ensures records { OnOk result (records.new.items ≡ records.old.items ++ stored ∷ []) }
     ensures number { IfOk result (λ id. id ≡ version_at (length versions.old.versions)) }
+    ensures within { OnOk result (length versions.old.versions < most_versions) }
     ensures full { result ≡ Err GrowFault.Full → length versions.old.versions ≡ most_versions }
     ensures kept { OnErr result ((versions.new ≡ versions.old) × (records.new.items ≡ records.old.items)) }
 {
-    if records.push(stored).is_err() {
-        return Err(GrowFault::Memory);
+    versions.keeps_order();
+    if versions.len() as usize == MOST_VERSIONS {
+        return Err(GrowFault::Full);
     }
+    records.push(stored)?;
     match versions.append(row, commit) {
         Ok(version) => Ok(version),
         Err(AppendFault::Full) => {

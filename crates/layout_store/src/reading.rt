@@ -1,11 +1,12 @@
-ghost use Rattle.std.specs.Prelude.{◌≡◌, ◌<◌, IfSome, length, slice_get, option_map};
+ghost use Rattle.std.specs.Prelude.{ℕ, ◌≡◌, ◌<◌, Some, All, IfSome, length, slice_get, option_map};
+ghost use Rattle.attr_catalog.specs.Attribute.{Attribute};
 ghost use Rattle.reservoir_record.specs.Finding.{value_of};
 ghost use Rattle.row_columns.specs.Lent.{owned};
 ghost use Rattle.phys_columns.specs.Cells.{cell_at};
 ghost use Rattle.phys_columns.specs.Lent as cell;
 ghost use Rattle.document_records.specs.StoredValue.{AreReadable};
 ghost use Rattle.layout_store.specs.Values.{number_of};
-ghost use Rattle.layout_store.specs.Along.{value_by, value_stored};
+ghost use Rattle.layout_store.specs.Along.{value_by, value_stored, first_of};
 
 use attr_catalog::{Catalog, Way};
 use doc_values::AttrId;
@@ -13,8 +14,28 @@ use document_records::{Record, read_lent};
 use phys_columns::Columns;
 use row_columns::ValueRef;
 
-/// The value to which a way leads.
-pub(crate) fn read_way<'a>(
+/// The first value to which one of some ways leads.
+pub(crate) fn read_path<'a>(
+    catalog: &Catalog,
+    stored: &'a Record,
+    columns: &'a Columns,
+    version: u32,
+    ways: &[Way],
+) -> Option<ValueRef<'a>>
+    requires lead { All (λ way. number_of way < length catalog.now) ways.now }
+    requires readable { (id : ℕ) (a : Attribute) → slice_get catalog.now id ≡ Some a → IfSome (value_of id stored.now) (AreReadable a.kind) }
+    ensures exact { option_map owned result ≡ first_of (value_by catalog.now stored.now columns.now.cells version) ways.now }
+{
+    for way in ways {
+        if let Some(value) = read_way(catalog, stored, columns, version, *way) {
+            return Some(value);
+        }
+    }
+    None
+}
+
+// The value to which a way leads.
+fn read_way<'a>(
     catalog: &Catalog,
     stored: &'a Record,
     columns: &'a Columns,
@@ -22,7 +43,7 @@ pub(crate) fn read_way<'a>(
     way: Way,
 ) -> Option<ValueRef<'a>>
     requires standing { number_of way < length catalog.now }
-    requires readable { IfSome (slice_get catalog.now (number_of way)) (λ a. IfSome (value_of (number_of way) stored.now) (AreReadable a.kind)) }
+    requires readable { (id : ℕ) (a : Attribute) → slice_get catalog.now id ≡ Some a → IfSome (value_of id stored.now) (AreReadable a.kind) }
     ensures exact { option_map owned result ≡ value_by catalog.now stored.now columns.now.cells version way }
 {
     match way {
@@ -38,7 +59,7 @@ pub(crate) fn read_way<'a>(
 // The value of an attribute in a record.
 fn read_field<'a>(catalog: &Catalog, stored: &'a Record, id: AttrId) -> Option<ValueRef<'a>>
     requires standing { id.0 < length catalog.now }
-    requires readable { IfSome (slice_get catalog.now id.0) (λ a. IfSome (value_of id.0 stored.now) (AreReadable a.kind)) }
+    requires readable { (i : ℕ) (a : Attribute) → slice_get catalog.now i ≡ Some a → IfSome (value_of i stored.now) (AreReadable a.kind) }
     ensures exact { option_map owned result ≡ value_stored catalog.now stored.now id.0 }
 {
     match stored.find(id.0) {
@@ -59,7 +80,7 @@ fn read_cell(columns: &Columns, version: u32, id: AttrId) -> Option<ValueRef<'_>
 
 // The same value, lent.
 fn lent<'a>(value: phys_columns::ValueRef<'a>) -> ValueRef<'a>
-    ensures exact { owned result ≡ cell.owned value }
+    ensures exact { owned result ≡ cell.owned value.entry }
 {
     match value {
         phys_columns::ValueRef::Bool(b) => ValueRef::Bool(b),

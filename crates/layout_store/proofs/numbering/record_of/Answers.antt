@@ -1,4 +1,5 @@
-use Rattle.document_records.specs.StoredDocument.{pairs_of}
+use Rattle.std.proofs.Common.{◌≤◌, length, subst}
+use Rattle.document_records.specs.StoredDocument.{Pairs, pairs_of}
 use Rattle.layout_store.specs.Numbering.{fields_made}
 use Rattle.layout_store.proofs.RecordFields.{made_stands, made_kept, made_fit, made_within, made_fields, made_many, up_from_sorted, few_pairs}
 use Rattle.layout_store.proofs.numbering.record_of.Goals as goal
@@ -40,3 +41,8 @@ returns-clause-ok c =
       light = made_fit law (pairs_of n) few d c.len-kept.ensures.kept c.requires.light c.number_fields.new.entries.items ss c.in_ok-number_fields.ensures.ok c.sort_unstable.ensures.permutation;
       many = made_many law (pairs_of n) few d c.len-kept.ensures.kept c.requires.light c.number_fields.new.entries.items ss c.in_ok-number_fields.ensures.ok c.sort_unstable.ensures.permutation;
     })
+
+pub returns-clause-within : goal.returns-clause-within
+returns-clause-within c =
+    let n = c.number_fields.new.catalog in
+    subst (λ (ps : Pairs). length ps ≤ 65536) c.in_ok-number_fields.ensures.pairs (few_pairs n c.keeps_the_rules.ensures.few)
