@@ -1,3 +1,4 @@
 pub mod Attribute
 pub mod Catalog
 pub mod Inside
+pub mod Paths

@@ -1,5 +1,5 @@
 pub mod CatalogNumbers
-mod StoredValues
-mod StoredFields
+pub mod StoredValues
+pub mod StoredFields
 mod DocumentFields
-mod WholeDocuments
+pub mod WholeDocuments

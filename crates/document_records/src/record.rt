@@ -1,10 +1,11 @@
-ghost use Rattle.std.specs.Prelude.{◌≡◌, ◌<◌, List, Some, length, slice_get, option_map, IfOk, option_copied};
-ghost use Rattle.reservoir_record.specs.Spelling.{AreFields, ArePartsOf, IsRecord, Spells};
+ghost use Rattle.std.specs.Prelude.{◌≡◌, ◌<◌, ◌≤◌, ◌+◌, List, Some, None, length, slice_get, option_map, IfOk, OnOk, OnErr, option_copied};
+ghost use Rattle.reservoir_record.specs.Spelling.{AreFields, ArePartsOf, IsRecord, Spells, values};
+ghost use Rattle.reservoir_record.specs.Editing.{with_field, without_field};
 ghost use Rattle.reservoir_record.specs.Finding.{value_of};
 ghost use Rattle.reservoir_record.specs.declared.fields.Field.{Field};
 
 use reservoir_record::{
-    Steps, a_spelling_has_its_fields_in_place, build_from_parts, count, field, find,
+    Steps, a_spelling_has_its_fields_in_place, build_from_parts, count, field, find, put, remove,
 };
 use std::alloc::{AllocError, Global};
 use std::marker::{Brand, Model};
@@ -76,6 +77,27 @@ impl Record {
     {
         a_spelling_has_its_fields_in_place();
         field(&self.bytes, place).1
+    }
+
+    /// Puts in a field whose number the record does not have.
+    pub fn put(&mut self, id: u32, value: &[u8]) -> Result<(), AllocError>
+        requires small { id < 65536 }
+        requires absent { value_of id self.old ≡ None }
+        requires fit { length (values self.old) + length value.now ≤ 16777216 }
+        ensures ok { OnOk result (self.new ≡ with_field id value.now self.old) }
+        ensures memory { OnErr result (self.new ≡ self.old) }
+    {
+        a_spelling_has_its_fields_in_place();
+        put(&mut self.bytes, id, value)?;
+        Ok(())
+    }
+
+    /// Takes out the field with a number, if there is one. Nothing is allocated.
+    pub fn remove(&mut self, id: u32)
+        ensures exact { self.new ≡ without_field id self.old }
+    {
+        a_spelling_has_its_fields_in_place();
+        remove(&mut self.bytes, id);
     }
 }
 

@@ -17,6 +17,7 @@ mod numbers;
 mod parts;
 mod putting;
 mod reading;
+mod removing;
 mod steps;
 mod taking;
 mod walking;
@@ -34,6 +35,7 @@ pub use laws::{
 pub use parts::build_from_parts;
 pub use putting::put;
 pub use reading::{count, field, find};
+pub use removing::remove;
 pub use steps::Steps;
 pub use taking::take;
 pub use walking::Walk;

@@ -31,8 +31,8 @@ pub fn take(bytes: &mut Vec<u8>, id: u32) -> Result<Option<Vec<u8>>, AllocError>
     }
 }
 
-// Takes out the field at a place.
-fn take_at(bytes: &mut Vec<u8>, place: usize)
+/// Takes out the field at a place.
+pub(crate) fn take_at(bytes: &mut Vec<u8>, place: usize)
     requires record_bytes { IsRecord bytes.old.items }
     requires within { (fields : List Field) → Spells fields bytes.old.items → place < length fields }
     ensures exact { (fields : List Field) → Spells fields bytes.old.items → bytes.new.items ≡ spelling (take place fields ++ drop (place + 1) fields) }
