@@ -1,9 +1,0 @@
-pub mod Storage
-pub mod Documents
-pub mod Placed
-pub mod Shows
-pub mod Numbering
-pub mod Changes
-pub mod Values
-pub mod Moved
-pub mod Along
