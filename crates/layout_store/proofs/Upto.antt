@@ -1,0 +1,218 @@
+-- Attributes that are changed one after another: those of the fields before a place, and those of the cells below a number.
+use Rattle.std.proofs.Common.{◌≡◌, ℕ, zero, suc, ◌+◌, ◌<◌, ◌≤◌, ◌==◌, ◌&&◌, nat_lt, Bool, true, false, cond, List, [], ◌∷◌, length, take, Option, Some, None, IfSome, is_some, option_map, slice_get, refl, sym, ap, subst, ◌∙◌, arith}
+use Rattle.std.specs.Option.{option_or}
+use Rattle.std.proofs.lemmas.Bool.Decides.{nat_tests}
+use Rattle.std.proofs.lemmas.Option.{same_Some, none-some, slice_get_within}
+use Rattle.doc_values.specs.declared.value.Value.{Value}
+use Rattle.reservoir_record.specs.declared.fields.Field.{Field}
+use Rattle.reservoir_record.specs.Finding.{value_of}
+use Rattle.reservoir_record.specs.Spelling.{Ascends, AreFields}
+use Rattle.attr_catalog.specs.Attribute.{Attribute}
+use Rattle.attr_catalog.specs.Catalog.{changed, number}
+use Rattle.phys_columns.specs.Cells.{Cells, cell_at}
+use Rattle.row_versions.proofs.Places.{get-within}
+use Rattle.layout_store.specs.Storage.{either_side}
+use Rattle.layout_store.specs.Changes.{AreChanged, lowered_if}
+use Rattle.layout_store.proofs.Attributes.{at_one, one-changed, changed-twice, changed-alike, changed-none, changed-back, equal_or_not, test_same, test_other}
+use Rattle.layout_store.proofs.Entries.{take_plus, take_all_of}
+use Rattle.layout_store.proofs.Fields.{value-here, value-later, value-append}
+
+-- Attributes of which a test holds are changed.
+abbrev pub where_so : (Attribute → Attribute) → (ℕ → Bool) → ℕ → Attribute → Attribute
+where_so change test i a = cond (test i) (change a) a
+
+-- Of the fields before a place one has a number.
+abbrev pub before : List Field → ℕ → ℕ → Bool
+before fs k i = is_some (value_of i (take k fs))
+
+-- A number is below a bound, and has a cell.
+abbrev pub below : Cells → ℕ → ℕ → ℕ → Bool
+below cells version k i = nat_lt i k && is_some (cell_at i version cells)
+
+-- ---- one more
+
+one-more : (change : Attribute → Attribute) (test more : ℕ → Bool) (first cur : List Attribute) (id : ℕ) → AreChanged (where_so change test) first cur → id < length cur → test id ≡ false → more id ≡ true → ((i : ℕ) → (i ≡ id → ⊥) → more i ≡ test i)
+    → AreChanged (where_so change more) first (changed change (number id) cur)
+one-more change test more first cur id h lt no_yet sure same =
+    changed-alike (λ i a. at_one change id i (where_so change test i a)) (where_so change more) first (changed change (number id) cur)
+    (changed-twice (where_so change test) (at_one change id) first cur (changed change (number id) cur) h (one-changed change (number id) cur lt))
+    (λ i a at. equal_or_not i id (at_one change id i (where_so change test i a) ≡ where_so change more i a)
+    (λ e.
+    let now : test i ≡ false = ap test e ∙ no_yet in
+    let then_is : more i ≡ true = ap more e ∙ sure in
+    let here : i == id ≡ true = ap (λ (n : ℕ). n == id) e ∙ test_same id in
+    ap (λ (t : Bool). cond t (change (where_so change test i a)) (where_so change test i a)) here ∙ ap (λ (t : Bool). change (cond t (change a) a)) now ∙ ap (λ (t : Bool). cond t (change a) a) (sym then_is))
+    (λ ne.
+    ap (λ (t : Bool). cond t (change (where_so change test i a)) (where_so change test i a)) (test_other i id ne) ∙ ap (λ (t : Bool). cond t (change a) a) (sym (same i ne))))
+
+-- what was not changed yet
+not-yet : (change : Attribute → Attribute) (test : ℕ → Bool) (first cur : List Attribute) (id : ℕ) (a : Attribute) → AreChanged (where_so change test) first cur → test id ≡ false → slice_get first id ≡ Some a → slice_get cur id ≡ Some a
+not-yet change test first cur id a h no_yet at = h.each id a at ∙ ap (λ (t : Bool). Some (cond t (change a) a)) no_yet
+
+if_at : (o : Option Attribute) (P : Attribute → Type 0) (a : Attribute) → o ≡ Some a → P a → IfSome o P
+if_at None P a e p = absurd (none-some a e)
+if_at (Some b) P a e p = subst P (sym (same_Some b a e)) p
+
+-- ---- fields
+
+taken_low : (fs : List Field) (least k : ℕ) (f : Field) → Ascends least fs → slice_get fs k ≡ Some f → (value_of f.id (take k fs) ≡ None) × (least ≤ f.id)
+taken_low [] least k f h at = absurd (none-some f at)
+taken_low (g ∷ fs) least zero f h at = let same : g ≡ f = same_Some g f at in (refl, subst (λ (x : Field). least ≤ x.id) same h.0)
+taken_low (g ∷ fs) least (suc k) f h at =
+    let rest = taken_low fs (g.id + 1) k f h.2 at in
+    (value-later f.id g (take k fs) (λ e. absurd (omega (arith, rest.1))) ∙ rest.0, omega (arith, rest.1, h.0))
+
+-- The number at a place of a record.
+pub record IsAt (fs : List Field) (k id : ℕ) : Type 0 where
+  pub field : Field
+  pub there : slice_get fs k ≡ Some field
+  pub numbered : field.id ≡ id
+
+pub at-place : (fs : List Field) (k id : ℕ) → option_map (λ (f : Field). f.id) (slice_get fs k) ≡ Some id → IsAt fs k id
+at-place fs k id e = by (slice_get fs k) refl e
+  where
+    by : (o : Option Field) → slice_get fs k ≡ o → option_map (λ (f : Field). f.id) o ≡ Some id → IsAt fs k id
+    by None at h = absurd (none-some id h)
+    by (Some f) at h = record { field = f; there = at; numbered = same_Some f.id id h }
+
+module _ (fs : List Field) (lawful : AreFields fs) (k id : ℕ) (at : option_map (λ (f : Field). f.id) (slice_get fs k) ≡ Some id) where
+  here : IsAt fs k id
+  here = at-place fs k id at
+
+  no_yet : before fs k id ≡ false
+  no_yet = ap (λ (n : ℕ). is_some (value_of n (take k fs))) (sym here.numbered) ∙ ap (λ (o : Option (List ℕ)). is_some o) (taken_low fs 0 k here.field lawful.ascend here.there).0
+
+  more_by : (i : ℕ) (o : Option (List ℕ)) → (i ≡ id → ⊥) → is_some (option_or o (value_of i (here.field ∷ []))) ≡ is_some o
+  more_by i None ne = ap (λ (o : Option (List ℕ)). is_some o) (value-later i here.field [] (λ e. ne (sym e ∙ here.numbered)))
+  more_by i (Some b) ne = refl
+
+  next : (i : ℕ) → before fs (k + 1) i ≡ is_some (option_or (value_of i (take k fs)) (value_of i (here.field ∷ [])))
+  next i = ap (λ (xs : List Field). is_some (value_of i xs)) (take_plus fs k here.field here.there) ∙ ap (λ (o : Option (List ℕ)). is_some o) (value-append i (take k fs) (here.field ∷ []))
+
+  yes_by : (o : Option (List ℕ)) → is_some (option_or o (value_of id (here.field ∷ []))) ≡ true
+  yes_by None = ap (λ (o : Option (List ℕ)). is_some o) (value-here id here.field [] here.numbered)
+  yes_by (Some b) = refl
+
+  -- the field at the place has its number among all
+  pub found : (bytes : List ℕ) × (value_of id fs ≡ Some bytes)
+  found = (here.field.bytes, get_value fs 0 k lawful.ascend here.there)
+    where
+      get_value : (xs : List Field) (least k : ℕ) → Ascends least xs → slice_get xs k ≡ Some here.field → value_of id xs ≡ Some here.field.bytes
+      get_value [] least k h e = absurd (none-some here.field e)
+      get_value (g ∷ xs) least zero h e = let same : g ≡ here.field = same_Some g here.field e in value-here id g xs (ap (λ (x : Field). x.id) same ∙ here.numbered) ∙ ap (λ (x : Field). Some x.bytes) same
+      get_value (g ∷ xs) least (suc k) h e =
+          let rest = taken_low xs (g.id + 1) k here.field h.2 e in
+          value-later id g xs (λ same. absurd (omega (arith, rest.1, here.numbered))) ∙ get_value xs (g.id + 1) k h.2 e
+
+  module _ (change : Attribute → Attribute) (first cur : List Attribute) (h : AreChanged (where_so change (before fs k)) first cur) (known : (i : ℕ) (bytes : List ℕ) → value_of i fs ≡ Some bytes → i < length first) where
+    pub standing : id < length cur
+    standing = omega (arith, h.many, known id found.0 found.1)
+
+    pub field-next : AreChanged (where_so change (before fs (k + 1))) first (changed change (number id) cur)
+    field-next = one-more change (before fs k) (before fs (k + 1)) first cur id h standing no_yet (next id ∙ yes_by (value_of id (take k fs))) (λ i ne. next i ∙ more_by i (value_of i (take k fs)) ne)
+
+    pub field-now : (P : Attribute → Type 0) → ((i : ℕ) (a : Attribute) → slice_get first i ≡ Some a → is_some (value_of i fs) ≡ true → P a) → IfSome (slice_get cur id) P
+    field-now P so =
+        let a = get-within first id (known id found.0 found.1) in
+        if_at (slice_get cur id) P a.0 (not-yet change (before fs k) first cur id a.0 h no_yet a.1) (so id a.0 a.1 (ap (λ (o : Option (List ℕ)). is_some o) found.1))
+
+take_none : (fs : List Field) → take 0 fs ≡ []
+take_none [] = refl
+take_none (f ∷ fs) = refl
+
+pub fields-none : (change : Attribute → Attribute) (fs : List Field) (first : List Attribute) → AreChanged (where_so change (before fs 0)) first first
+fields-none change fs first = changed-none (where_so change (before fs 0)) first (λ i a. ap (λ (xs : List Field). cond (is_some (value_of i xs)) (change a) a) (take_none fs))
+
+pub fields-all : (change : Attribute → Attribute) (fs : List Field) (first last : List Attribute) → AreChanged (where_so change (before fs (length fs))) first last → AreChanged (where_so change (λ i. is_some (value_of i fs))) first last
+fields-all change fs first last h = changed-alike (where_so change (before fs (length fs))) (where_so change (λ i. is_some (value_of i fs))) first last h (λ i a at. ap (λ (xs : List Field). cond (is_some (value_of i xs)) (change a) a) (take_all_of fs))
+
+-- ---- cells
+
+module _ (cells : Cells) (version k : ℕ) where
+  same_below : (i : ℕ) → (i ≡ k → ⊥) → nat_lt i (k + 1) ≡ nat_lt i k
+  same_below i ne = by (nat_lt i k) refl
+    where
+      by : (t : Bool) → nat_lt i k ≡ t → nat_lt i (k + 1) ≡ t
+      by true e = let lt : i < k = grind (arith, nat_tests) in let less : i < k + 1 = omega arith in grind (arith, nat_tests)
+      by false e = let ge : k ≤ i = grind (arith, nat_tests) in let above : k + 1 ≤ i = omega_ne ge in grind (arith, nat_tests)
+        where
+          omega_ne : k ≤ i → k + 1 ≤ i
+          omega_ne ge = lt_by (nat_lt k i) refl
+            where
+              lt_by : (t : Bool) → nat_lt k i ≡ t → k + 1 ≤ i
+              lt_by true e = let lt : k < i = grind (arith, nat_tests) in omega arith
+              lt_by false e = let le : i ≤ k = grind (arith, nat_tests) in absurd (ne (omega arith))
+
+  not_itself : nat_lt k k ≡ false
+  not_itself = grind (arith, nat_tests)
+
+  below_more : nat_lt k (k + 1) ≡ true
+  below_more = let lt : k < k + 1 = omega arith in grind (arith, nat_tests)
+
+  module _ (change : Attribute → Attribute) (first cur : List Attribute) (h : AreChanged (where_so change (below cells version k)) first cur) where
+    none_yet : below cells version k k ≡ false
+    none_yet = ap (λ (t : Bool). t && is_some (cell_at k version cells)) not_itself
+
+    pub cell-next : k < length first → is_some (cell_at k version cells) ≡ true → AreChanged (where_so change (below cells version (k + 1))) first (changed change (number k) cur)
+    cell-next lt has =
+        one-more change (below cells version k) (below cells version (k + 1)) first cur k h (omega (arith, h.many)) none_yet (ap (λ (t : Bool). t && is_some (cell_at k version cells)) below_more ∙ has)
+        (λ i ne. ap (λ (t : Bool). t && is_some (cell_at i version cells)) (same_below i ne))
+
+    pub cell-past : is_some (cell_at k version cells) ≡ false → AreChanged (where_so change (below cells version (k + 1))) first cur
+    cell-past lacks =
+        changed-alike (where_so change (below cells version k)) (where_so change (below cells version (k + 1))) first cur h
+        (λ i a at. ap (λ (t : Bool). cond t (change a) a) (equal_or_not i k (below cells version k i ≡ below cells version (k + 1) i)
+        (λ e. ap (below cells version k) e ∙ none_yet ∙ sym (ap (below cells version (k + 1)) e ∙ ap (λ (t : Bool). t && is_some (cell_at k version cells)) below_more ∙ lacks))
+        (λ ne. sym (ap (λ (t : Bool). t && is_some (cell_at i version cells)) (same_below i ne)))))
+
+    pub cell-now : (P : Attribute → Type 0) → k < length first → is_some (cell_at k version cells) ≡ true → ((i : ℕ) (a : Attribute) → slice_get first i ≡ Some a → is_some (cell_at i version cells) ≡ true → P a) → IfSome (slice_get cur k) P
+    cell-now P lt has so =
+        let a = get-within first k lt in
+        if_at (slice_get cur k) P a.0 (not-yet change (below cells version k) first cur k a.0 h none_yet a.1) (so k a.0 a.1 has)
+
+-- one number more, whether or not it has a cell
+pub cell-step : (change : Attribute → Attribute) (cells : Cells) (version k : ℕ) (first cur new : List Attribute) → AreChanged (where_so change (below cells version k)) first cur → k < length first
+    → new ≡ cond (is_some (cell_at k version cells)) (changed change (number k) cur) cur → AreChanged (where_so change (below cells version (k + 1))) first new
+cell-step change cells version k first cur new h lt is = by (is_some (cell_at k version cells)) refl is
+  where
+    by : (t : Bool) → is_some (cell_at k version cells) ≡ t → new ≡ cond t (changed change (number k) cur) cur → AreChanged (where_so change (below cells version (k + 1))) first new
+    by true e is = subst (λ (xs : List Attribute). AreChanged (where_so change (below cells version (k + 1))) first xs) (sym is) (cell-next cells version k change first cur h lt e)
+    by false e is = subst (λ (xs : List Attribute). AreChanged (where_so change (below cells version (k + 1))) first xs) (sym is) (cell-past cells version k change first cur h e)
+
+pub cells-none : (change : Attribute → Attribute) (cells : Cells) (version : ℕ) (first : List Attribute) → AreChanged (where_so change (below cells version 0)) first first
+cells-none change cells version first = changed-none (where_so change (below cells version 0)) first (λ i a. let e : nat_lt i 0 ≡ false = grind (arith, nat_tests) in ap (λ (t : Bool). cond (t && is_some (cell_at i version cells)) (change a) a) e)
+
+pub cells-all : (change : Attribute → Attribute) (cells : Cells) (version n : ℕ) (first last : List Attribute) → length first ≤ n → AreChanged (where_so change (below cells version n)) first last → AreChanged (where_so change (λ i. is_some (cell_at i version cells))) first last
+cells-all change cells version n first last le h =
+    changed-alike (where_so change (below cells version n)) (where_so change (λ i. is_some (cell_at i version cells))) first last h
+    (λ i a at. let lt = slice_get_within first i a at in let less : i < n = omega (arith, lt) in let e : nat_lt i n ≡ true = grind (arith, nat_tests) in ap (λ (t : Bool). cond (t && is_some (cell_at i version cells)) (change a) a) e)
+
+-- ---- both sides
+
+pub both-lowered : (fs : List Field) (cells : Cells) (version : ℕ) (first middle last : List Attribute) → ((i : ℕ) (bytes : List ℕ) → value_of i fs ≡ Some bytes → cell_at i version cells ≡ None)
+    → AreChanged (λ i. lowered_if (is_some (value_of i fs))) first middle → AreChanged (λ i. lowered_if (is_some (cell_at i version cells))) middle last → AreChanged (λ i. lowered_if (is_some (either_side (value_of i fs) (cell_at i version cells)))) first last
+both-lowered fs cells version first middle last apart h k =
+    changed-alike (λ i a. lowered_if (is_some (cell_at i version cells)) (lowered_if (is_some (value_of i fs)) a)) (λ i. lowered_if (is_some (either_side (value_of i fs) (cell_at i version cells)))) first last
+    (changed-twice (λ i. lowered_if (is_some (value_of i fs))) (λ i. lowered_if (is_some (cell_at i version cells))) first middle last h k)
+    (λ i a at. by i a (value_of i fs) refl (cell_at i version cells) refl)
+  where
+    by : (i : ℕ) (a : Attribute) (r : Option (List ℕ)) → value_of i fs ≡ r → (c : Option Value) → cell_at i version cells ≡ c → lowered_if (is_some c) (lowered_if (is_some r) a) ≡ lowered_if (is_some (either_side r c)) a
+    by i a None e None f = refl
+    by i a None e (Some v) f = refl
+    by i a (Some b) e None f = refl
+    by i a (Some b) e (Some v) f = absurd (none-some v (sym (apart i b e) ∙ f))
+
+-- what is lowered by its cell was not lowered by its record
+pub still-counted : (fs : List Field) (cells : Cells) (version : ℕ) (first middle : List Attribute) → ((i : ℕ) (bytes : List ℕ) → value_of i fs ≡ Some bytes → cell_at i version cells ≡ None) → AreChanged (λ i. lowered_if (is_some (value_of i fs))) first middle
+    → ((i : ℕ) (a : Attribute) → slice_get first i ≡ Some a → is_some (either_side (value_of i fs) (cell_at i version cells)) ≡ true → 0 < a.count) → (i : ℕ) (a : Attribute) → slice_get middle i ≡ Some a → is_some (cell_at i version cells) ≡ true → 0 < a.count
+still-counted fs cells version first middle apart h so i a at has =
+    let b = changed-back (λ j. lowered_if (is_some (value_of j fs))) first middle h i a at in
+    by b.0 b.1 b.2 (value_of i fs) refl (cell_at i version cells) refl has
+  where
+    by : (b : Attribute) → slice_get first i ≡ Some b → a ≡ lowered_if (is_some (value_of i fs)) b → (r : Option (List ℕ)) → value_of i fs ≡ r → (c : Option Value) → cell_at i version cells ≡ c → is_some c ≡ true → 0 < a.count
+    by b there is r e None f sure = absurd (let both : false ≡ true = sure in cc)
+    by b there is None e (Some v) f sure =
+        let same : a ≡ b = is ∙ ap (λ (o : Option (List ℕ)). lowered_if (is_some o) b) e in
+        let test : is_some (either_side (value_of i fs) (cell_at i version cells)) ≡ true = (λ k. is_some (either_side (e k) (f k))) in
+        subst (λ (x : Attribute). 0 < x.count) (sym same) (so i b there test)
+    by b there is (Some bytes) e (Some v) f sure = absurd (none-some v (sym (apart i bytes e) ∙ f))

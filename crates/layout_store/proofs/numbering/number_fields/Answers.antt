@@ -1,0 +1,39 @@
+use Rattle.std.proofs.Common.{◌≡◌, Err, refl, ◌∙◌, sym, ap}
+use Rattle.std.proofs.lemmas.Result.{err_from_is_err_and}
+use Rattle.layout_store.specs.declared.grow_fault.GrowFault.TheVariants.{Full}
+use Rattle.attr_catalog.specs.Catalog.{most_attributes}
+use Rattle.document_records.specs.StoredDocument.{pairs_of}
+use Rattle.layout_store.proofs.Pairs.{grown_itself, grown_twice}
+use Rattle.layout_store.proofs.Entries.{entries_more, pairs_more, too_many}
+use Rattle.layout_store.proofs.numbering.number_fields.Goals as goal
+
+pub loop-place-init : goal.loop-place-init
+loop-place-init c = record { grown = grown_itself c.args.catalog.now; entered = rw c.clear.ensures.items tt; pairs = refl }
+
+pub loop-place-preserved : goal.loop-place-preserved
+loop-place-preserved c =
+    let old = c.loop-place.catalog in
+    let new = c.number_pair.new.catalog in
+    let name = c.field.result.0.now in
+    let v = c.field.result.1.now in
+    record {
+      grown = grown_twice c.args.catalog.now old new c.loop-place.invariant.grown c.number_pair.ensures.grown;
+      entered = rw c.in_ok-push.ensures.items
+          (entries_more old new c.number_pair.ensures.grown c.args.document.now c.loop-place.place c.loop-place.entries.items name v c.kind_kept.result c.in_ok-id.id c.field.ensures.exact c.kind_kept.ensures.exact
+          c.loop-place.invariant.entered c.in_ok-id.ensures.number c.kind_kept.ensures.readable);
+      pairs = pairs_more (pairs_of c.args.catalog.now) (pairs_of old) (pairs_of new) c.args.document.now c.loop-place.place name v c.kind_kept.result c.field.ensures.exact c.kind_kept.ensures.exact c.loop-place.invariant.pairs
+          c.in_ok-id.ensures.pairs;
+    }
+
+pub returns-in_err-id-clause-grown : goal.returns-in_err-id-clause-grown
+returns-in_err-id-clause-grown c = grown_twice c.args.catalog.now c.loop-place.catalog c.number_pair.new.catalog c.loop-place.invariant.grown c.number_pair.ensures.grown
+
+pub returns-in_err-push-clause-grown : goal.returns-in_err-push-clause-grown
+returns-in_err-push-clause-grown c = grown_twice c.args.catalog.now c.loop-place.catalog c.number_pair.new.catalog c.loop-place.invariant.grown c.number_pair.ensures.grown
+
+pub returns-in_err-id-clause-full : goal.returns-in_err-id-clause-full
+returns-in_err-id-clause-full c = λ e.
+    let p = err_from_is_err_and c.from_residual.result c.from_residual.ensures.1 in
+    let same : p.0 ≡ Full = cc in
+    too_many (pairs_of c.args.catalog.now) (pairs_of c.loop-place.catalog) c.args.document.now c.loop-place.place most_attributes c.field.result.0.now c.field.result.1.now c.kind_kept.result c.field.ensures.exact c.kind_kept.ensures.exact
+    c.loop-place.invariant.pairs (c.in_err-id.ensures.full (ap Err (sym p.2 ∙ same)))

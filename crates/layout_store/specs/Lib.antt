@@ -1,0 +1,9 @@
+pub mod Storage
+pub mod Documents
+pub mod Placed
+pub mod Shows
+pub mod Numbering
+pub mod Changes
+pub mod Values
+pub mod Moved
+pub mod Along
