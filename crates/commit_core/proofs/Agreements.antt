@@ -2,7 +2,6 @@
 use Rattle.std.proofs.Common.{◌≡◌, ◌≤◌, ◌∙◌, ◌==◌, refl, ℕ, Bool, true, false, cond, List, [], ◌∷◌, Option, Some, None, option_and_then, slice_get, length, map, sym, ap, arith}
 use Rattle.std.specs.Prelude.{All, IfSome}
 use Rattle.std.specs.List.{AllByRecursion as EachIs}
-use Rattle.std.specs.Option.{option_map_or}
 use Rattle.std.proofs.lemmas.List.Elements.{All-from_recursion, recursion_from_All, All-filter, All-take}
 use Rattle.std.proofs.lemmas.List.{length-map, take_all}
 use Rattle.doc_values.specs.declared.col_ref.ColRef.{ColRef}
@@ -14,17 +13,19 @@ use Rattle.doc_values.specs.Order.{rank}
 use Rattle.doc_values.specs.Value.{kind_of, IsStorable}
 use Rattle.sql_tree.specs.declared.select.Select.{Select}
 use Rattle.sql_tree.specs.declared.table.Table.{Table}
+use Rattle.sql_eval.specs.declared.select_plan.SelectPlan.{SelectPlan}
 use Rattle.row_columns.specs.Contents.{Cells}
 use Rattle.sql_eval.specs.Meaning.{given, if_wanted}
-use Rattle.type_rules.specs.Uses.{columns_of}
-use Rattle.query_meaning.specs.Question.{is_kept, documents_kept, answer_among}
-use Rattle.query_meaning.specs.Plans.{cells_under, cells_of, most_needed, at_most, rows_read}
-use Rattle.query_meaning.specs.Runs.{IsStorableRow}
+use Rattle.type_rules.specs.Plan.{IsPlanOf}
+use Rattle.query_meaning.specs.Question.{alone, is_kept, answer_among}
+use Rattle.query_meaning.specs.Plans.{cells_under, each_under, most_needed, at_most, documents_needed, rows_under, Serve}
+use Rattle.query_meaning.specs.Runs.{IsStorableRow, AreRowsFor}
 use Rattle.commit_core.specs.State.{State, IsState, documents_at}
 use Rattle.commit_core.specs.Query.{documents_asked, answer_of}
 use Rattle.commit_core.specs.Plan.{Plan, refused, read, write, plan_of}
 use Rattle.commit_core.specs.Replies.{reply_at, told_plan, told_of, state_after}
 use Rattle.commit_core.proofs.States.{documents_at-documents}
+use Rattle.commit_core.specs.Planned.{IsReadAs}
 use Rattle.commit_core.specs.Commits.{texts_of, state_of}
 use Rattle.commit_core.specs.Agreement.{Agrees}
 use Rattle.commit_core.specs.declared.entry.Entry.{Entry}
@@ -35,27 +36,48 @@ length-texts_of entries = length-map entries (λ entry. entry.text)
 Some-injective : {A : Type 0} {a b : A} → Some a ≡ Some b → b ≡ a
 Some-injective same = cc
 
+-- The references of a plan decide the answer to its question.
+abbrev PlansServe : Type 0
+PlansServe = (question : Select) (plan : SelectPlan) → IsPlanOf question plan → Serve plan.refs question
+
+-- a plan has a list of references for each table
+pub each_table : (resolved : SelectPlan) (plan : Plan) (asked : IsReadAs resolved plan) → length resolved.refs ≡ length asked.question.tables
+each_table resolved plan asked = ap length asked.resolves.refs ∙ ap length (sym asked.asked.tables)
+
 -- a reading that has read nothing yet agrees with all commits
-pub Agrees-none : (text : List ℕ) (question : Select) (at : ℕ) (entries : List Entry) → plan_of text ≡ read question → at ≡ length entries
-    → Agrees (record { text = text; at = at; rows = None }) (texts_of entries)
-Agrees-none text question at entries planned all =
+pub Agrees-none : PlansServe → (text : List ℕ) (resolved : SelectPlan) (at : ℕ) (entries : List Entry) → IsReadAs resolved (plan_of text) → at ≡ length entries
+    → Agrees (record { text = text; at = at; references = resolved.refs; rows = None }) (texts_of entries)
+Agrees-none serve text resolved at entries asked all =
     let e = length-texts_of entries in
-    record { question = question; planned = planned; reached = omega arith; found = λ rows same. absurd (none same) }
+    record {
+      question = asked.question;
+      planned = asked.planned;
+      reached = omega arith;
+      each = each_table resolved (plan_of text) asked;
+      serve = serve asked.question resolved asked.resolves;
+      found = λ rows same. absurd (none same);
+    }
   where
     none : {A : Type 0} {a : A} → None ≡ Some a → ⊥
     none same = cc
 
 -- the rows that are read of the documents after all commits agree with them
-pub Agrees-all : (text : List ℕ) (question : Select) (entries : List Entry) (rows : List Cells) → plan_of text ≡ read question → rows ≡ rows_read question (documents_asked question (state_of entries))
-    → Agrees (record { text = text; at = length entries; rows = Some rows }) (texts_of entries)
-Agrees-all text question entries rows planned found =
+pub Agrees-all : PlansServe → (text : List ℕ) (resolved : SelectPlan) (references : List (List ColRef)) (entries : List Entry) (rows : List (List Cells)) (asked : IsReadAs resolved (plan_of text)) → resolved.refs ≡ references
+    → rows ≡ rows_under resolved.refs asked.question (documents_asked asked.question (state_of entries))
+    → Agrees (record { text = text; at = length entries; references = references; rows = Some rows }) (texts_of entries)
+Agrees-all serve text resolved references entries rows asked same_references found =
     let e = length-texts_of entries in
     let whole : length (texts_of entries) ≤ length entries = omega arith in
+    let question = asked.question in
     record {
       question = question;
-      planned = planned;
+      planned = asked.planned;
       reached = omega arith;
-      found = λ others same. Some-injective same ∙ found ∙ ap (λ texts. rows_read question (documents_asked question (state_after texts))) (sym (take_all (length entries) (texts_of entries) whole));
+      each = ap length (sym same_references) ∙ each_table resolved (plan_of text) asked;
+      serve = subst (λ refs. Serve refs question) same_references (serve question resolved asked.resolves);
+      found = λ others same. Some-injective same ∙ found
+      ∙ ap (λ refs. rows_under refs question (documents_asked question (state_of entries))) same_references
+      ∙ ap (λ texts. rows_under references question (documents_asked question (state_after texts))) (sym (take_all (length entries) (texts_of entries) whole));
     }
 
 -- ---- what is read can be computed with
@@ -77,30 +99,52 @@ cells_storable law d h [] = tt
 cells_storable law d h (c ∷ cs) = (given_by c.want (value_at c.name d) (law d c.name h).2, cells_storable law d h cs)
 
 -- what is read of a document can be computed with
-pub row_storable : StaysDocument → (columns : List ColRef) (d : Fields) → IsDocument d → IsStorableRow (cells_under columns false d)
-row_storable law columns d h = All-from_recursion (λ cell. IfSome cell IsStorable) (cells_under columns false d).cells (cells_storable law d h columns)
+pub row_storable : StaysDocument → (columns : List ColRef) (whole : Bool) (d : Fields) → IsDocument d → IsStorableRow (cells_under columns whole d)
+row_storable law columns whole d h = All-from_recursion (λ cell. IfSome cell IsStorable) (cells_under columns whole d).cells (cells_storable law d h columns)
 
-rows_storable : StaysDocument → (s : Select) (ds : List Fields) → EachIs IsDocument ds → EachIs IsStorableRow (map (cells_of s) ds)
-rows_storable law s [] h = tt
-rows_storable law s (d ∷ ds) h = (row_storable law (columns_of s) d h.0, rows_storable law s ds h.1)
+rows_storable : StaysDocument → (columns : List ColRef) (whole : Bool) (ds : List Fields) → EachIs IsDocument ds → EachIs IsStorableRow (map (cells_under columns whole) ds)
+rows_storable law columns whole [] h = tt
+rows_storable law columns whole (d ∷ ds) h = (row_storable law columns whole d h.0, rows_storable law columns whole ds h.1)
 
-needed_documents : (s : Select) (most : Option ℕ) (ds : List Fields) → All IsDocument ds → All IsDocument (at_most most (documents_kept s ds))
-needed_documents s None ds h = All-filter (λ (d : Fields). is_kept s (Some d ∷ [])) IsDocument ds h
-needed_documents s (Some most) ds h = All-take IsDocument most (documents_kept s ds) (All-filter (λ (d : Fields). is_kept s (Some d ∷ [])) IsDocument ds h)
+each_storable : StaysDocument → (references : List (List ColRef)) (whole : Bool) (tables : List (List Fields)) → EachIs (All IsDocument) tables → EachIs (All IsStorableRow) (each_under whole references tables)
+each_storable law [] whole tables h = tt
+each_storable law (columns ∷ references) whole [] h = tt
+each_storable law (columns ∷ references) whole (ds ∷ tables) h =
+    (All-from_recursion IsStorableRow (map (cells_under columns whole) ds) (rows_storable law columns whole ds (recursion_from_All IsDocument ds h.0)), each_storable law references whole tables h.1)
 
-asked_documents : (s : Select) (state : State) → IsState state → EachIs IsDocument (documents_asked s state)
-asked_documents s state h = by (slice_get s.tables 0)
+needed_documents : (s : Select) (most : Option ℕ) (ds : List Fields) → All IsDocument ds → All IsDocument (at_most most (filter (λ (d : Fields). is_kept s (alone d)) ds))
+needed_documents s None ds h = All-filter (λ (d : Fields). is_kept s (alone d)) IsDocument ds h
+needed_documents s (Some most) ds h = All-take IsDocument most (filter (λ (d : Fields). is_kept s (alone d)) ds) (All-filter (λ (d : Fields). is_kept s (alone d)) IsDocument ds h)
+
+under_storable : StaysDocument → (references : List (List ColRef)) (s : Select) (tables : List (List Fields)) → EachIs (All IsDocument) tables → EachIs (All IsStorableRow) (rows_under references s tables)
+under_storable law references s [] h = tt
+under_storable law references s (ds ∷ []) h =
+    each_storable law references s.star (documents_needed s ds ∷ []) (needed_documents s (most_needed s.distinct (map (λ k. k.descending) s.keys) s.limit) ds h.0, tt)
+under_storable law references s (ds ∷ es ∷ more) h = each_storable law references s.star (ds ∷ es ∷ more) h
+
+asked_documents : (s : Select) (state : State) → IsState state → EachIs (All IsDocument) (documents_asked s state)
+asked_documents s state h = by s.tables
   where
-    by : (o : Option Table) → EachIs IsDocument (option_map_or (λ (t : Table). documents_at t.collection state) o [])
-    by None = tt
-    by (Some t) = documents_at-documents t.collection state h
+    by : (ts : List Table) → EachIs (All IsDocument) (map (λ (t : Table). documents_at t.collection state) ts)
+    by [] = tt
+    by (t ∷ ts) = (All-from_recursion IsDocument (documents_at t.collection state) (documents_at-documents t.collection state h), by ts)
 
--- the rows that are read of the documents of a state hold numbers of documents
-pub read_storable : StaysDocument → (s : Select) (state : State) → IsState state → All IsStorableRow (rows_read s (documents_asked s state))
-read_storable law s state h =
-    let most = most_needed s.distinct (map (λ k. k.descending) s.keys) s.limit in
-    let documents = needed_documents s most (documents_asked s state) (All-from_recursion IsDocument (documents_asked s state) (asked_documents s state h)) in
-    All-from_recursion IsStorableRow (rows_read s (documents_asked s state)) (rows_storable law s (at_most most (documents_kept s (documents_asked s state))) (recursion_from_All IsDocument (at_most most (documents_kept s (documents_asked s state))) documents))
+length-each : (whole : Bool) (references : List (List ColRef)) (tables : List (List Fields)) → length references ≡ length tables → length (each_under whole references tables) ≡ length references
+length-each whole [] tables e = refl
+length-each whole (columns ∷ references) [] e = absurd (omega (arith, e))
+length-each whole (columns ∷ references) (ds ∷ tables) e = omega (arith, length-each whole references tables (omega (arith, e)))
+
+length-under : (references : List (List ColRef)) (s : Select) (tables : List (List Fields)) → length references ≡ length tables → length (rows_under references s tables) ≡ length references
+length-under references s [] e = sym e
+length-under references s (ds ∷ []) e = length-each s.star references (documents_needed s ds ∷ []) e
+length-under references s (ds ∷ es ∷ more) e = length-each s.star references (ds ∷ es ∷ more) e
+
+-- the rows that are read of the documents of a state can be computed with
+pub read_storable : StaysDocument → (references : List (List ColRef)) (s : Select) (state : State) → length references ≡ length s.tables → IsState state → AreRowsFor references (rows_under references s (documents_asked s state))
+read_storable law references s state e h = record {
+  each = length-under references s (documents_asked s state) (e ∙ sym (length-map s.tables (λ (t : Table). documents_at t.collection state)));
+  storable = All-from_recursion (All IsStorableRow) (rows_under references s (documents_asked s state)) (under_storable law references s (documents_asked s state) (asked_documents s state h));
+}
 
 -- ---- the reply of a reading
 
@@ -119,8 +163,13 @@ told_answer text question state at body planned e =
     ap (λ (b : List ℕ). reply_at at (record { accepted = false; body = b })) e ∙ sym (ap (λ (plan : Plan). reply_at at (told_plan plan state)) planned)
 
 -- what answers a question over rows answers the question of the same text
-pub answered_alike : (text : List ℕ) (a b : Select) (rows : List Cells) (ds : List Fields) (body : List ℕ) → plan_of text ≡ read a → plan_of text ≡ read b → rows ≡ rows_read b ds
-    → ((es : List Fields) → rows ≡ rows_read a es → body ≡ answer_among a es) → body ≡ answer_among b ds
-answered_alike text a b rows ds body p q found told =
+pub answered_alike : (text : List ℕ) (a b : Select) (references : List (List ColRef)) (rows : List (List Cells)) (tables : List (List Fields)) (body : List ℕ) → plan_of text ≡ read a → plan_of text ≡ read b
+    → length tables ≡ length b.tables → rows ≡ rows_under references b tables
+    → ((others : List (List Fields)) → length others ≡ length a.tables → rows ≡ rows_under references a others → body ≡ answer_among a others) → body ≡ answer_among b tables
+answered_alike text a b references rows tables body p q each found told =
     let same = same_question text a b p q in
-    told ds (found ∙ ap (λ (s : Select). rows_read s ds) (sym same)) ∙ ap (λ (s : Select). answer_among s ds) same
+    told tables (each ∙ ap (λ (s : Select). length s.tables) (sym same)) (found ∙ ap (λ (s : Select). rows_under references s tables) (sym same)) ∙ ap (λ (s : Select). answer_among s tables) same
+
+-- as many lists of documents as a question has tables
+pub length-asked : (s : Select) (state : State) → length (documents_asked s state) ≡ length s.tables
+length-asked s state = length-map s.tables (λ (t : Table). documents_at t.collection state)

@@ -1,7 +1,7 @@
 -- What is not accepted leaves the state as it is, and readings go on agreeing.
 use Rattle.std.proofs.Common.{◌≡◌, ℕ, ◌≤◌, false, List, ◌++◌, length, take, refl, sym, ap, ◌∙◌, arith, length-append}
 use Rattle.std.proofs.lemmas.List.{take-append-le}
-use Rattle.query_meaning.specs.Plans.{rows_read}
+use Rattle.query_meaning.specs.Plans.{rows_under}
 use Rattle.commit_core.specs.State.{State}
 use Rattle.commit_core.specs.Query.{documents_asked}
 use Rattle.commit_core.specs.Write.{Effect, accepted, range, full, effect_of}
@@ -28,7 +28,9 @@ agrees_front reading texts others agrees reached same =
       question = agrees.question;
       planned = agrees.planned;
       reached = reached;
-      found = λ rows h. agrees.found rows h ∙ ap (λ front. rows_read agrees.question (documents_asked agrees.question (state_after front))) (sym same);
+      each = agrees.each;
+      serve = agrees.serve;
+      found = λ rows h. agrees.found rows h ∙ ap (λ front. rows_under reading.references agrees.question (documents_asked agrees.question (state_after front))) (sym same);
     }
 
 pub agrees_later : (reading : ReadingOf) (texts later : List (List ℕ)) → Agrees reading texts → Agrees reading (texts ++ later)

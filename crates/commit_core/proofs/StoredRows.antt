@@ -146,7 +146,7 @@ module _ (law : RecordsAreDocuments) (attributes : List Attribute) (once : IsOnc
     where
       one : (o : Option Expr) → ((row : Cells) → IsStorableRow row → IfSome o (CanEvaluate (alone row))) → (fs : List Field) → IsKept (pairs_of attributes) fs → IsDocument (document_stored (pairs_of attributes) fs)
           → IfSome o (CanEvaluate (alone (cells_along (map (path_of attributes) columns) fs)))
-      one o can fs k d = subst (λ (cells : Cells). IfSome o (CanEvaluate (alone cells))) (sym (cells_read fs k columns)) (can (cells_under columns false (document_stored (pairs_of attributes) fs)) (row_storable stays columns (document_stored (pairs_of attributes) fs) d))
+      one o can fs k d = subst (λ (cells : Cells). IfSome o (CanEvaluate (alone cells))) (sym (cells_read fs k columns)) (can (cells_under columns false (document_stored (pairs_of attributes) fs)) (row_storable stays columns false (document_stored (pairs_of attributes) fs) d))
 
       each : (e : Expr) → ((row : Cells) → IsStorableRow row → CanEvaluate (alone row) e) → (rs : List (List Field)) → All (IsKept (pairs_of attributes)) rs → All (λ fields. IsDocument (document_stored (pairs_of attributes) fields)) rs
           → All (λ fields. CanEvaluate (alone (cells_along (map (path_of attributes) columns) fields)) e) rs

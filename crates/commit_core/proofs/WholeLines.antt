@@ -1,10 +1,10 @@
 -- Every reply is whole lines.
-use Rattle.std.proofs.Common.{◌≡◌, ◌≢◌, ◌≤◌, ℕ, suc, zero, List, [], ◌∷◌, ◌++◌, Bool, true, false, Option, Some, None, Result, Ok, Err, cond, map, flat_map, fold, codes, decimal, length, refl, sym, arith, nat_eq, nat_le, ◌&&◌, ◌/◌, ◌%◌, ◌⊎◌, inl, inr}
-use Rattle.std.specs.Prelude.{All, IfSome, filter, slice_get}
-use Rattle.std.specs.Option.{option_map_or}
+use Rattle.std.proofs.Common.{◌≡◌, ◌≢◌, ◌≤◌, ℕ, suc, zero, List, [], ◌∷◌, ◌++◌, Bool, true, false, Option, Some, None, Result, Ok, Err, cond, map, flat_map, fold, codes, decimal, length, refl, sym, subst, arith, nat_eq, nat_le, ◌&&◌, ◌/◌, ◌%◌, ◌⊎◌, inl, inr}
+use Rattle.std.specs.Prelude.{All, IfSome, filter}
 use Rattle.std.specs.List.{AllByRecursion as EachIs, list_all}
 use Rattle.std.specs.Fmt.{digits, digits_onto, digit_glyph}
 use Rattle.std.proofs.lemmas.Grind.{flat_map-append, common_steps}
+use Rattle.std.proofs.lemmas.List.Concat.{flat_map-cons}
 use Rattle.std.proofs.lemmas.List.Elements.{All-from_recursion, recursion_from_All}
 use Rattle.std.proofs.lemmas.Bool.{false≢true}
 use Rattle.std.proofs.lemmas.Bool.Decides.{nat_tests}
@@ -20,6 +20,7 @@ use Rattle.sql_tree.specs.declared.table.Table.{Table}
 use Rattle.sql_tree.specs.declared.term.Term.{Term}
 use Rattle.sql_grammar.specs.StatementReader.{statement_of}
 use Rattle.row_columns.specs.Contents.{Output}
+use Rattle.row_columns.specs.Sides.{side_at}
 use Rattle.sql_eval.specs.Meaning.{meaning}
 use Rattle.sql_eval.specs.OneLine.{HaveOneLineArrays}
 use Rattle.type_rules.specs.declared.type_fault.TypeFault.{TypeFault}
@@ -29,7 +30,7 @@ use Rattle.type_rules.specs.Places.{scope_of, item_terms}
 use Rattle.exec_finish.specs.Answer.{line, ok_line, finished}
 use Rattle.exec_finish.specs.Lines.{is_mark, IsAnswerLine, IsLines, HasOneLineValues}
 use Rattle.commit_core.specs.State.{State, documents_at, opening}
-use Rattle.query_meaning.specs.Question.{tuples_of, is_kept, values_of, output_of, answer_among}
+use Rattle.query_meaning.specs.Question.{alone, with_table, tuples_of, is_kept, values_of, output_of, answer_among}
 use Rattle.commit_core.specs.Query.{documents_asked}
 use Rattle.commit_core.specs.Write.{accepted, full, loads, with_load, is_full}
 use Rattle.commit_core.specs.Plan.{Plan, refused, read, write, plan_of, plan_in, lawful_plan, checked_plan, load_plan, syntax_line, type_line, json_line}
@@ -135,35 +136,67 @@ plain_documents : (docs : List Fields) → EachIs HasOneLineArrays docs → Each
 plain_documents [] h = tt
 plain_documents (d ∷ ds) h = (recursion_from_All (λ field. HasOneLineArray field.1) d h.0, plain_documents ds h.1)
 
+-- ---- the tuples of tables
+
+abbrev IsPlainSide : Option Fields → Type 0
+IsPlainSide side = IfSome side (All (λ field. HasOneLineArray field.1))
+
+abbrev IsPlainTuple : List (Option Fields) → Type 0
+IsPlainTuple = EachIs IsPlainSide
+
+alone_plain : (d : Fields) → IsPlainDocument d → IsPlainTuple (alone d)
+alone_plain d h = (All-from_recursion (λ field. HasOneLineArray field.1) d h, tt)
+
+all_alone : (ds : List Fields) → EachIs IsPlainDocument ds → EachIs IsPlainTuple (map alone ds)
+all_alone [] h = tt
+all_alone (d ∷ ds) h = (alone_plain d h.0, all_alone ds h.1)
+
+behind_plain : (tuple : List (Option Fields)) → IsPlainTuple tuple → (ds : List Fields) → EachIs IsPlainDocument ds → EachIs IsPlainTuple (map (λ (d : Fields). tuple ++ alone d) ds)
+behind_plain tuple p [] h = tt
+behind_plain tuple p (d ∷ ds) h = (EachIs-append IsPlainSide tuple (alone d) p (alone_plain d h.0), behind_plain tuple p ds h.1)
+
+table_plain : (tuples : List (List (Option Fields))) → EachIs IsPlainTuple tuples → (ds : List Fields) → EachIs IsPlainDocument ds → EachIs IsPlainTuple (with_table tuples ds)
+table_plain [] p ds h = tt
+table_plain (tuple ∷ tuples) p ds h =
+    subst (EachIs IsPlainTuple) (sym (flat_map-cons (λ (u : List (Option Fields)). map (λ (d : Fields). u ++ alone d) ds) tuple tuples))
+    (EachIs-append IsPlainTuple (map (λ (d : Fields). tuple ++ alone d) ds) (with_table tuples ds) (behind_plain tuple p.0 ds h) (table_plain tuples p.1 ds h))
+
+tables_plain : (tuples : List (List (Option Fields))) → EachIs IsPlainTuple tuples → (tables : List (List Fields)) → EachIs (EachIs IsPlainDocument) tables → EachIs IsPlainTuple (fold with_table tuples tables)
+tables_plain tuples p [] h = p
+tables_plain tuples p (ds ∷ tables) h = tables_plain (with_table tuples ds) (table_plain tuples p ds h.0) tables h.1
+
+tuples_plain : (tables : List (List Fields)) → EachIs (EachIs IsPlainDocument) tables → EachIs IsPlainTuple (tuples_of tables)
+tuples_plain [] h = tt
+tuples_plain (ds ∷ tables) h = tables_plain (map alone ds) (all_alone ds h.0) tables h.1
+
 -- ---- the rows of an answer
 
 module _ (means : MeansOnOneLine) (s : Select) where
-  side_plain : (d : Fields) → IsPlainDocument d → HaveOneLineArrays (Some d ∷ [])
-  side_plain d h = All-from_recursion (λ side. IfSome side (All (λ field. HasOneLineArray field.1))) (Some d ∷ []) (All-from_recursion (λ field. HasOneLineArray field.1) d h, tt)
+  values_plain : (tuple : List (Option Fields)) → IsPlainTuple tuple → (ts : List Term) → EachIs (λ item. IfSome item HasOneLineArray) (values_of s tuple ts)
+  values_plain tuple h [] = tt
+  values_plain tuple h (t ∷ ts) = (means (scope_of s) tuple t None (All-from_recursion IsPlainSide tuple h), values_plain tuple h ts)
 
-  values_plain : (d : Fields) → IsPlainDocument d → (ts : List Term) → EachIs (λ item. IfSome item HasOneLineArray) (values_of s (Some d ∷ []) ts)
-  values_plain d h [] = tt
-  values_plain d h (t ∷ ts) = (means (scope_of s) (Some d ∷ []) t None (side_plain d h), values_plain d h ts)
+  doc_plain : (t : Bool) (tuple : List (Option Fields)) → IsPlainTuple tuple → IfSome (cond t (side_at tuple 0) None) (λ fields. All (λ field. HasOneLineArray field.1) fields)
+  doc_plain false tuple h = tt
+  doc_plain true [] h = tt
+  doc_plain true (None ∷ sides) h = tt
+  doc_plain true (Some d ∷ sides) h = h.0
 
-  doc_plain : (t : Bool) (d : Fields) → IsPlainDocument d → IfSome (cond t (Some d) None) (λ fields. All (λ field. HasOneLineArray field.1) fields)
-  doc_plain true d h = All-from_recursion (λ field. HasOneLineArray field.1) d h
-  doc_plain false d h = tt
+  row_plain : (tuple : List (Option Fields)) → IsPlainTuple tuple → HasOneLineValues (output_of s tuple)
+  row_plain tuple h = record { items = All-from_recursion _ (values_of s tuple (item_terms s)) (values_plain tuple h (item_terms s)); doc = doc_plain s.star tuple h }
 
-  row_plain : (d : Fields) → IsPlainDocument d → HasOneLineValues (output_of s (Some d ∷ []))
-  row_plain d h = record { items = All-from_recursion _ (values_of s (Some d ∷ []) (item_terms s)) (values_plain d h (item_terms s)); doc = doc_plain s.star d h }
+  rows_by : (tuple : List (Option Fields)) (tuples : List (List (Option Fields))) (t : Bool) → IsPlainTuple tuple → EachIs HasOneLineValues (map (output_of s) (filter (is_kept s) tuples))
+      → EachIs HasOneLineValues (map (output_of s) (cond t (tuple ∷ filter (is_kept s) tuples) (filter (is_kept s) tuples)))
+  rows_by tuple tuples true h rest = (row_plain tuple h, rest)
+  rows_by tuple tuples false h rest = rest
 
-  rows_by : (d : Fields) (ds : List Fields) (t : Bool) → IsPlainDocument d → EachIs HasOneLineValues (map (output_of s) (filter (is_kept s) (tuples_of ds)))
-      → EachIs HasOneLineValues (map (output_of s) (cond t ((Some d ∷ []) ∷ filter (is_kept s) (tuples_of ds)) (filter (is_kept s) (tuples_of ds))))
-  rows_by d ds true h rest = (row_plain d h, rest)
-  rows_by d ds false h rest = rest
-
-  rows_plain : (ds : List Fields) → EachIs IsPlainDocument ds → EachIs HasOneLineValues (map (output_of s) (filter (is_kept s) (tuples_of ds)))
+  rows_plain : (tuples : List (List (Option Fields))) → EachIs IsPlainTuple tuples → EachIs HasOneLineValues (map (output_of s) (filter (is_kept s) tuples))
   rows_plain [] h = tt
-  rows_plain (d ∷ ds) h = rows_by d ds (is_kept s (Some d ∷ [])) h.0 (rows_plain ds h.1)
+  rows_plain (tuple ∷ tuples) h = rows_by tuple tuples (is_kept s tuple) h.0 (rows_plain tuples h.1)
 
-  answer_plain : AnswersInLines → (ds : List Fields) → EachIs IsPlainDocument ds → IsLines (answer_among s ds)
-  answer_plain answers ds h =
-      answers s.distinct _ s.limit s.star (map (output_of s) (filter (is_kept s) (tuples_of ds))) (All-from_recursion HasOneLineValues _ (rows_plain ds h))
+  answer_plain : AnswersInLines → (tables : List (List Fields)) → EachIs (EachIs IsPlainDocument) tables → IsLines (answer_among s tables)
+  answer_plain answers tables h =
+      answers s.distinct _ s.limit s.star (map (output_of s) (filter (is_kept s) (tuples_of tables))) (All-from_recursion HasOneLineValues _ (rows_plain (tuples_of tables) (tuples_plain tables h)))
 
 -- each document of a state is plain
 abbrev IsPlainState : State → Type 0
@@ -220,12 +253,12 @@ AreLines-effect : (after : State) (rows : ℕ) (t : Bool) → AreLines (told_eff
 AreLines-effect after rows true = AreLines-full
 AreLines-effect after rows false = AreLines-ok rows
 
-asked_plain : (s : Select) (state : State) → IsPlainState state → EachIs IsPlainDocument (documents_asked s state)
-asked_plain s state h = by (slice_get s.tables 0)
+asked_plain : (s : Select) (state : State) → IsPlainState state → EachIs (EachIs IsPlainDocument) (documents_asked s state)
+asked_plain s state h = by s.tables
   where
-    by : (o : Option Table) → EachIs IsPlainDocument (option_map_or (λ (t : Table). documents_at t.collection state) o [])
-    by None = tt
-    by (Some t) = h t.collection
+    by : (ts : List Table) → EachIs (EachIs IsPlainDocument) (map (λ (t : Table). documents_at t.collection state) ts)
+    by [] = tt
+    by (t ∷ ts) = (h t.collection, by ts)
 
 IsLines-plan : AnswersInLines → MeansOnOneLine → (plan : Plan) (state : State) → IsPlainPlan plan → IsPlainState state → IsLines (told_plan plan state).body
 IsLines-plan answers means (refused text) state p h = IsLines-from_recursion _ p

@@ -1,9 +1,13 @@
--- The list of commits that callers see a store as, and what one write makes of it.
+-- What callers see a store as, and what one write makes of its commits.
 use Rattle.std.specs.Prelude.{◌≡◌, ℕ, List, [], ◌∷◌, ◌++◌, Bool, length, map, if◌then◌else◌}
 use Rattle.commit_core.specs.State.{State}
 use Rattle.commit_core.specs.Replies.{Told, told_of, reply_at, state_after}
 use Rattle.commit_core.specs.declared.entry.Entry.{Entry}
 use Rattle.commit_core.specs.declared.reply.Reply.{Reply}
+
+-- A store, as callers see it: the commits made so far.
+pub record CoreOf : Type 0 where
+  pub commits : List Entry
 
 -- The texts of commits.
 abbrev pub texts_of : List Entry → List (List ℕ)

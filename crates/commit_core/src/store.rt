@@ -1,4 +1,4 @@
-ghost use Rattle.std.specs.Prelude.{◌≡◌, [], List, length, map, IfOk, OnOk, OnErr, IsSome, None, false};
+ghost use Rattle.std.specs.Prelude.{◌≡◌, [], ◌∷◌, List, length, map, IfOk, OnOk, OnErr, IsSome, None, false};
 
 use crate::collections::Collections;
 use crate::entry::Entry;
@@ -11,13 +11,14 @@ use crate::reading::Reading;
 use crate::reply::Reply;
 use crate::state_laws::{loads_are_light, states_keep_the_rules};
 use doc_values::{Bytes, Documents, Utf, documents_are_maps};
-use query_meaning::{plans_can_be_run, plans_read_what_is_asked};
+use query_meaning::{plans_can_be_run, plans_keep_meaning, plans_read_what_is_asked};
 use row_columns::TableRows;
 use sql_eval::SelectPlan;
+use sqlite_items::Items;
 use std::alloc::{AllocError, Global};
 use std::marker::Model;
 
-/// A store of documents; seen as the list of its commits.
+/// A store of documents; seen as the commits made so far.
 #[derive(Drop)]
 pub struct Core {
     commits: Vec<Entry>,
@@ -25,20 +26,19 @@ pub struct Core {
 }
 
 impl Model for Core {
-    ghost use Rattle.std.specs.Prelude.{◌≡◌, List};
-    ghost use Rattle.commit_core.specs.declared.entry.Entry.{Entry as EntryOf};
-    ghost use Rattle.commit_core.specs.Commits.{state_of};
+    ghost use Rattle.std.specs.Prelude.{◌≡◌};
+    ghost use Rattle.commit_core.specs.Commits.{CoreOf, state_of};
 
-    ghost Value = { List EntryOf };
+    ghost Value = { CoreOf };
 
-    ghost view = { λ c. c.commits.items };
+    ghost view = { λ c. record { commits = c.commits.items } };
 
     ghost invariant = { λ c. c.collections ≡ state_of c.commits.items };
 }
 
 impl Core {
     ghost use Rattle.commit_core.specs.Agreement.{Agrees, sort_of};
-    ghost use Rattle.query_meaning.specs.Plans.{rows_read};
+    ghost use Rattle.query_meaning.specs.Plans.{rows_under};
     ghost use Rattle.commit_core.specs.Commits.{IsWrite, texts_of, told_over, state_of};
     ghost use Rattle.commit_core.specs.Plan.{Plan, plan_of, write};
     ghost use Rattle.commit_core.specs.Planned.{IsReadAs};
@@ -48,7 +48,7 @@ impl Core {
 
     /// A store with no commit.
     pub fn new(alloc: Global) -> Core
-        ensures exact { result ≡ [] }
+        ensures exact { result.commits ≡ [] }
     {
         Core {
             commits: Vec::new(alloc),
@@ -58,7 +58,7 @@ impl Core {
 
     /// The number of commits.
     pub fn now(&self) -> u64
-        ensures exact { result ≡ length self.now }
+        ensures exact { result ≡ length self.now.commits }
     {
         self.commits.len() as u64
     }
@@ -66,7 +66,7 @@ impl Core {
     /// Makes a write. An accepted one is a commit.
     pub fn write(&mut self, caller: u32, prepared: &Prepared) -> Result<Reply, AllocError>
         requires { sort_of (plan_of prepared.now) ≡ PreparedSort.Write }
-        ensures ok { IfOk result (λ reply. IsWrite caller prepared.now self.old self.new reply) }
+        ensures ok { IfOk result (λ reply. IsWrite caller prepared.now self.old.commits self.new.commits reply) }
         ensures memory { OnErr result (self.new ≡ self.old) }
     {
         let Planned::Write {
@@ -82,7 +82,7 @@ impl Core {
     /// The reply to a text that is refused whatever the store holds.
     pub fn refusal(&self, prepared: &Prepared) -> Result<Reply, AllocError>
         requires { sort_of (plan_of prepared.now) ≡ PreparedSort.Refused }
-        ensures ok { IfOk result (λ reply. reply ≡ reply_at (length self.now) (told_over self.now prepared.now)) }
+        ensures ok { IfOk result (λ reply. reply ≡ reply_at (length self.now.commits) (told_over self.now.commits prepared.now)) }
     {
         let Planned::Refused(line) = prepared.planned() else {
             unreachable!()
@@ -91,11 +91,11 @@ impl Core {
         Ok(self.refused(Bytes::from_vec(line)))
     }
 
-    /// Begins a query at the newest number; nothing is read yet.
+    /// Begins a query at the newest number, with references that serve it; nothing is read yet.
     pub fn begin(&self, prepared: &Prepared) -> Result<Reading, AllocError>
         requires { sort_of (plan_of prepared.now) ≡ PreparedSort.Read }
-        ensures ok { IfOk result (λ reading. reading ≡ record { text = prepared.now; at = length self.now; rows = None }) }
-        ensures agrees { IfOk result (λ reading. Agrees reading (texts_of self.now)) }
+        ensures ok { IfOk result (λ reading. reading ≡ record { text = prepared.now; at = length self.now.commits; references = reading.references; rows = None }) }
+        ensures agrees { IfOk result (λ reading. Agrees reading (texts_of self.now.commits)) }
     {
         let Planned::Read(plan) = prepared.planned() else {
             unreachable!()
@@ -109,13 +109,14 @@ impl Core {
 
     /// Reads all that a query asks for at the newest number.
     pub fn reread(&self, reading: &mut Reading) -> Result<(), AllocError>
-        ensures ok { OnOk result (Agrees reading.new (texts_of self.now)) }
+        ensures ok { OnOk result (Agrees reading.new (texts_of self.now.commits)) }
         ensures read { OnOk result (IsSome reading.new.rows) }
-        ensures exact { OnOk result ((reading.new.at ≡ length self.now) × (reading.new.text ≡ reading.old.text)) }
+        ensures exact { OnOk result ((reading.new.at ≡ length self.now.commits) × (reading.new.text ≡ reading.old.text) × (reading.new.references ≡ reading.old.references)) }
         ensures memory { OnErr result (reading.new ≡ reading.old) }
     {
         states_keep_the_rules();
         documents_are_maps();
+        plans_keep_meaning();
         let rows = self.rows(reading.plan())?;
         reading.fill(self.now(), rows);
         Ok(())
@@ -129,7 +130,7 @@ impl Core {
         documents: &Documents,
     ) -> Result<Reply, AllocError>
         requires { plan_of text.now ≡ write (loads collection.now documents.now) }
-        ensures ok { IfOk result (λ reply. IsWrite caller text.now self.old self.new reply) }
+        ensures ok { IfOk result (λ reply. IsWrite caller text.now self.old.commits self.new.commits reply) }
         ensures memory { OnErr result (self.new ≡ self.old) }
     {
         loads_are_light();
@@ -157,7 +158,7 @@ impl Core {
 
     // The reply that refuses a text with a line.
     fn refused(&self, line: Bytes) -> Reply
-        ensures exact { result ≡ record { at = length self.now; accepted = false; body = line } }
+        ensures exact { result ≡ record { at = length self.now.commits; accepted = false; body = line } }
     {
         Reply {
             at: self.now(),
@@ -166,10 +167,21 @@ impl Core {
         }
     }
 
-    // The rows that a question reads.
-    fn rows(&self, plan: &SelectPlan) -> Result<TableRows, AllocError>
+    // The rows of each table that a question reads under the references of its plan.
+    fn rows(&self, plan: &SelectPlan) -> Result<Items<TableRows>, AllocError>
         requires { (p : Plan) × IsReadAs plan.now p }
-        ensures ok { IfOk result (λ rows. (p : Plan) (asked : IsReadAs plan.now p) → rows ≡ rows_read asked.question (documents_asked asked.question (state_of self.now))) }
+        ensures ok { IfOk result (λ tables. (p : Plan) (asked : IsReadAs plan.now p) → tables ≡ rows_under plan.now.refs asked.question (documents_asked asked.question (state_of self.now.commits))) }
+    {
+        let rows = self.rows_of_one(plan)?;
+        let mut tables = Items::new(self.allocator());
+        tables.push(rows)?;
+        Ok(tables)
+    }
+
+    // The same of the one table of a question.
+    fn rows_of_one(&self, plan: &SelectPlan) -> Result<TableRows, AllocError>
+        requires { (p : Plan) × IsReadAs plan.now p }
+        ensures ok { IfOk result (λ rows. (p : Plan) (asked : IsReadAs plan.now p) → rows ∷ [] ≡ rows_under plan.now.refs asked.question (documents_asked asked.question (state_of self.now.commits))) }
     {
         states_keep_the_rules();
         plans_can_be_run();

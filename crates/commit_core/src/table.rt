@@ -38,7 +38,7 @@ impl Table {
     ghost use Rattle.doc_values.specs.Doc.{IsDocument};
     ghost use Rattle.doc_values.specs.Weight.{weight_of};
     ghost use Rattle.document_records.specs.Limits.{most_weight};
-    ghost use Rattle.query_meaning.specs.Plans.{rows_by};
+    ghost use Rattle.query_meaning.specs.Plans.{rows_alone};
     ghost use Rattle.query_meaning.specs.Runs.{CanBeTested};
     ghost use Rattle.commit_core.specs.Write.{new_collection, with_documents, is_beyond};
 
@@ -78,8 +78,8 @@ impl Table {
         )
     }
 
-    /// The rows that a plan reads: of the documents that its condition keeps, as many as its answer needs, each with a
-    /// value, or NULL, for each column, and with the document where whole ones are asked for.
+    /// The rows that a plan reads of its one table: of the documents that its condition keeps, as many as its answer
+    /// needs, each with a value, or NULL, for each column, and with the document where whole ones are asked for.
     pub(crate) fn rows(
         &self,
         plan: &SelectPlan,
@@ -87,7 +87,7 @@ impl Table {
     ) -> Result<TableRows, AllocError>
         requires ordered { All (λ row. IsDocument row.document) self.now.rows }
         requires tested { CanBeTested plan.now }
-        ensures ok { IfOk result (λ rows. rows ≡ rows_by plan.now columns.now (map (λ row. row.document) self.now.rows)) }
+        ensures ok { IfOk result (λ rows. rows ≡ rows_alone plan.now columns.now (map (λ row. row.document) self.now.rows)) }
     {
         records_are_their_documents();
         documents_are_maps();

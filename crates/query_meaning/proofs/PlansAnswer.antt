@@ -1,5 +1,5 @@
 -- The rows that are read answer a question as its documents do, and are those that the plan reads.
-use Rattle.std.proofs.Common.{◌≡◌, ◌∙◌, refl, sym, ap, subst, ℕ, zero, suc, Bool, true, false, cond, List, [], ◌∷◌, map, take, Option, Some, None, slice_get}
+use Rattle.std.proofs.Common.{◌≡◌, ◌∙◌, refl, sym, ap, subst, ℕ, zero, suc, Bool, true, false, cond, List, [], ◌∷◌, length, map, take, Option, Some, None, slice_get, arith}
 use Rattle.std.specs.Prelude.{filter}
 use Rattle.std.specs.Option.{option_map_or}
 use Rattle.std.proofs.lemmas.List.{take-map}
@@ -28,8 +28,8 @@ use Rattle.exec_join.specs.Filter.{keeps}
 use Rattle.exec_finish.specs.Answer.{answer_text, limited, finished}
 use Rattle.exec_finish.specs.Order.{put_in, ordered}
 use Rattle.exec_finish.specs.Plain.{document_of, plain_row}
-use Rattle.query_meaning.specs.Question.{tuples_of, is_kept, values_of, output_of, answer_among}
-use Rattle.query_meaning.specs.Plans.{cells_under, cells_of, most_needed, at_most, rows_read, rows_by, alone, tuples_over, passes, output_by, answer_of_plan}
+use Rattle.query_meaning.specs.Question.{alone, tuples_of, is_kept, values_of, output_of, answer_among}
+use Rattle.query_meaning.specs.Plans.{cells_under, most_needed, at_most, documents_needed, rows_under, Serve, rows_alone, passes, output_by, answer_of_plan}
 
 -- ---- lists
 
@@ -86,7 +86,7 @@ module _ (law : KeepsMeaning) (s : Select) (p : SelectPlan) (h : IsPlanOf s p) w
   row whole d = alone (cells_under (columns_of s) whole d)
 
   abbrev sides : Fields → List (Option Fields)
-  sides d = Some d ∷ []
+  sides d = alone d
 
   at_row : (whole : Bool) (d : Fields) (place : ℕ) (columns : List ColRef) → slice_get (columns_of s ∷ []) place ≡ Some columns → IsRowOf columns (side_at (sides d) place) (side_at (row whole d) place)
   at_row whole d zero columns at =
@@ -115,21 +115,34 @@ module _ (law : KeepsMeaning) (s : Select) (p : SelectPlan) (h : IsPlanOf s p) w
       let doc = docs d in
       λ i. record { items = items i; doc = doc i; keys = keys i }
 
-  outputs : (ds : List Fields) → map (output_by p) (tuples_over (map (cells_of s) ds)) ≡ map (output_of s) (tuples_of ds)
+  outputs : (ds : List Fields) → map (output_by p) (map alone (map (cells_under (columns_of s) s.star) ds)) ≡ map (output_of s) (map alone ds)
   outputs [] = refl
   outputs (d ∷ ds) = let first = output d in let rest = outputs ds in λ i. first i ∷ rest i
 
   abbrev most : Option ℕ
   most = most_needed s.distinct (map (λ k. k.descending) s.keys) s.limit
 
-  -- the answer over what is read of documents is the answer over the documents
-  pub answered : (ds : List Fields) → answer_of_plan p (rows_read s ds) ≡ answer_among s ds
-  answered ds =
+  -- the answer over what is read of the documents of one table is the answer over the documents
+  answered_one : (ds : List Fields) → answer_of_plan p (map (cells_under (columns_of s) s.star) (documents_needed s ds) ∷ []) ≡ answer_among s (ds ∷ [])
+  answered_one ds =
       let kept = filter (λ (d : Fields). is_kept s (sides d)) ds in
       let rows = outputs (at_most most kept) ∙ ap (map (output_of s)) (at_most-map sides most kept) ∙ at_most-map (output_of s) most (map sides kept)
       ∙ ap (λ (tuples : List (List (Option Fields))). at_most most (map (output_of s) tuples)) (sym (filter_made sides (is_kept s) ds)) in
       (λ i. finished (h.distinct i) (h.descending i) (h.limit i) (h.star i) (rows i))
-      ∙ needed_alone s.distinct (map (λ k. k.descending) s.keys) s.limit s.star (map (output_of s) (filter (is_kept s) (tuples_of ds)))
+      ∙ needed_alone s.distinct (map (λ k. k.descending) s.keys) s.limit s.star (map (output_of s) (filter (is_kept s) (map sides ds)))
+
+  one_list : length p.refs ≡ 1
+  one_list = ap length h.refs
+
+  -- the answer over what is read of documents is the answer over the documents
+  pub answered : (tables : List (List Fields)) → length tables ≡ length p.refs → answer_of_plan p (rows_under p.refs s tables) ≡ answer_among s tables
+  answered [] e = absurd (omega (arith, e, one_list))
+  answered (ds ∷ []) e = ap (λ (refs : List (List ColRef)). answer_of_plan p (rows_under refs s (ds ∷ []))) h.refs ∙ answered_one ds
+  answered (ds ∷ es ∷ more) e = absurd (omega (arith, e, one_list))
+
+  -- what is read decides the answer
+  pub serves : Serve p.refs s
+  serves tables others one other same = sym (answered tables one) ∙ ap (answer_of_plan p) same ∙ answered others other
 
   -- a document is kept by the plan where the question keeps it
   kept_by : (o : Option Term) (q : Option Expr) → ConditionResolves (scope_of s) p.refs o q → (d : Fields)
@@ -139,8 +152,12 @@ module _ (law : KeepsMeaning) (s : Select) (p : SelectPlan) (h : IsPlanOf s p) w
   kept_by (Some t) None r d = absurd r
   kept_by (Some t) (Some q) r d = ap (λ (v : Option Value). keeps (truth_of v)) (means false d (Some kind.Bool) t q r)
 
-  -- what the plan reads is what the question reads
-  pub read_as_asked : (ds : List Fields) → rows_by p (columns_of s) ds ≡ rows_read s ds
-  read_as_asked ds =
+  -- what the plan reads is what is read for the question
+  pub read_as_asked : (columns : List ColRef) → p.refs ≡ columns ∷ [] → (ds : List Fields) → rows_alone p columns ds ∷ [] ≡ rows_under p.refs s (ds ∷ [])
+  read_as_asked columns e ds =
       let same = filter_agree (λ (d : Fields). passes p.test (row false d)) (λ (d : Fields). is_kept s (sides d)) (kept_by s.test p.test h.test) ds in
-      λ i. map (cells_under (columns_of s) (h.star i)) (at_most (most_needed (h.distinct i) (h.descending i) (h.limit i)) (same i))
+      let lists : columns ∷ [] ≡ columns_of s ∷ [] = sym e ∙ h.refs in
+      let first : columns ≡ columns_of s = same_Some columns (columns_of s) (ap (λ (refs : List (List ColRef)). slice_get refs 0) lists) in
+      (λ i. rows_alone p (first i) ds ∷ [])
+      ∙ (λ i. map (cells_under (columns_of s) (h.star i)) (at_most (most_needed (h.distinct i) (h.descending i) (h.limit i)) (same i)) ∷ [])
+      ∙ ap (λ (refs : List (List ColRef)). rows_under refs s (ds ∷ [])) (sym h.refs)

@@ -1,5 +1,5 @@
 -- A plan that can be run can be run over rows whose numbers are those of documents.
-use Rattle.std.proofs.Common.{◌≡◌, subst, ℕ, zero, suc, Bool, true, List, [], ◌∷◌, length, map, Option, Some, None, option_and_then, slice_get}
+use Rattle.std.proofs.Common.{◌≡◌, ◌∙◌, refl, ap, arith, subst, ℕ, zero, suc, Bool, true, List, [], ◌∷◌, length, map, Option, Some, None, option_and_then, slice_get}
 use Rattle.std.specs.Prelude.{All, IfSome}
 use Rattle.std.specs.List.{AllByRecursion as EachIs}
 use Rattle.std.proofs.lemmas.List.Elements.{All-from_recursion, recursion_from_All}
@@ -14,8 +14,8 @@ use Rattle.row_columns.specs.Contents.{Cells}
 use Rattle.sql_eval.specs.Widths.{width_of, IsStorableTuple, CanEvaluate}
 use Rattle.type_rules.specs.Plan.{IsPlanOf}
 use Rattle.type_rules.specs.Runnable.{IsComputed, CanBeRun}
-use Rattle.query_meaning.specs.Plans.{alone, tuples_over}
-use Rattle.query_meaning.specs.Runs.{IsStorableRow, CanBeTested, CanRunOver}
+use Rattle.query_meaning.specs.Question.{alone, tuples_of}
+use Rattle.query_meaning.specs.Runs.{IsStorableRow, AreRowsFor, CanBeTested, CanRunOver}
 
 cell_storable : (cells : List (Option Value)) → EachIs (λ cell. IfSome cell IsStorable) cells → (k : ℕ) → IfSome (option_and_then (λ cell. cell) (slice_get cells k)) IsStorable
 cell_storable [] h k = tt
@@ -59,15 +59,28 @@ test_run s p h runs row storable = by p.test runs.test
     by None c = tt
     by (Some e) c = evaluates s p h e c row storable
 
-all_alone : (P : List (Option Cells) → Type 0) (rows : List Cells) → ((row : Cells) → IsStorableRow row → P (alone row)) → All IsStorableRow rows → All P (tuples_over rows)
-all_alone P rows f storable = All-from_recursion P (tuples_over rows) (each_alone P f rows (recursion_from_All IsStorableRow rows storable))
+all_alone : (P : List (Option Cells) → Type 0) (rows : List Cells) → ((row : Cells) → IsStorableRow row → P (alone row)) → EachIs IsStorableRow rows → All P (tuples_of (rows ∷ []))
+all_alone P rows f storable = All-from_recursion P (tuples_of (rows ∷ [])) (each_alone P f rows storable)
 
--- items and keys can be computed over each row
-pub run_over : (s : Select) (p : SelectPlan) → IsPlanOf s p → CanBeRun p → (rows : List Cells) → All IsStorableRow rows → CanRunOver p rows
-run_over s p h runs rows storable =
+one_storable : (rows : List Cells) → All (All IsStorableRow) (rows ∷ []) → EachIs IsStorableRow rows
+one_storable rows h = recursion_from_All IsStorableRow rows (recursion_from_All (All IsStorableRow) (rows ∷ []) h).0
+
+-- items and keys can be computed over each row of the one table
+run_over_one : (s : Select) (p : SelectPlan) → IsPlanOf s p → CanBeRun p → (rows : List Cells) → EachIs IsStorableRow rows → CanRunOver p (rows ∷ [])
+run_over_one s p h runs rows storable =
     record {
+      one = refl;
       items = all_alone (λ tuple. All (CanEvaluate tuple) p.items) rows
           (λ row w. All-from_recursion (CanEvaluate (alone row)) p.items (each_evaluates s p h p.items (recursion_from_All (IsComputed p.refs) p.items runs.items) row w)) storable;
       keys = all_alone (λ tuple. All (λ (k : KeyPlan). CanEvaluate tuple k.expr) p.keys) rows
           (λ row w. All-from_recursion (λ (k : KeyPlan). CanEvaluate (alone row) k.expr) p.keys (each_key_evaluates s p h p.keys (recursion_from_All (λ (k : KeyPlan). IsComputed p.refs k.expr) p.keys runs.keys) row w)) storable;
     }
+
+-- a plan can be run over the rows of as many tables as it reads
+pub run_over : (s : Select) (p : SelectPlan) → IsPlanOf s p → CanBeRun p → (tables : List (List Cells)) → AreRowsFor p.refs tables → CanRunOver p tables
+run_over s p h runs tables rows = by tables (rows.each ∙ ap length h.refs) rows.storable
+  where
+    by : (ts : List (List Cells)) → length ts ≡ 1 → All (All IsStorableRow) ts → CanRunOver p ts
+    by [] e w = absurd (omega (arith, e))
+    by (one ∷ []) e w = run_over_one s p h runs one (one_storable one w)
+    by (one ∷ two ∷ more) e w = absurd (omega (arith, e))

@@ -1,6 +1,6 @@
--- What a question over one table means over documents.
-use Rattle.std.specs.Prelude.{ℕ, List, [], ◌∷◌, Bool, true, map, Option, Some, None, if◌then◌else◌}
-use Rattle.std.specs.List.{filter}
+-- What a question means over the documents of its tables. No text spells a second table yet.
+use Rattle.std.specs.Prelude.{ℕ, List, [], ◌∷◌, ◌++◌, Bool, true, fold, map, Option, Some, None, if◌then◌else◌}
+use Rattle.std.specs.List.{filter, flat_map}
 use Rattle.std.specs.Option.{option_map_or}
 use Rattle.doc_values.specs.Doc.{Fields}
 use Rattle.doc_values.specs.declared.kind.Kind.TheVariants as kind
@@ -19,17 +19,22 @@ use Rattle.exec_finish.specs.Answer.{finished}
 abbrev pub Tuple : Type 0
 Tuple = List (Option Fields)
 
--- The tuples of documents of one table.
-abbrev pub tuples_of : List Fields → List Tuple
-tuples_of documents = map (λ d. Some d ∷ []) documents
+-- A tuple of one table.
+abbrev pub alone : {A : Type 0} → A → List (Option A)
+alone one = Some one ∷ []
+
+-- Each of some tuples with each of one more table behind it, in the order of the tuples and then of the table.
+abbrev pub with_table : {A : Type 0} → List (List (Option A)) → List A → List (List (Option A))
+with_table tuples table = flat_map (λ tuple. map (λ one. tuple ++ alone one) table) tuples
+
+-- The tuples of tables, whatever stands in them: those of the first table, with one table after the other behind them.
+abbrev pub tuples_of : {A : Type 0} → List (List A) → List (List (Option A))
+tuples_of [] = []
+tuples_of (first ∷ others) = fold with_table (map alone first) others
 
 -- The condition of a question keeps a tuple: it is true there, or there is none.
 abbrev pub is_kept : Select → Tuple → Bool
 is_kept s tuple = option_map_or (λ t. keeps (truth_of (meaning (scope_of s) tuple t (Some kind.Bool)))) s.test true
-
--- The documents of a table that the condition of a question keeps, in their order.
-abbrev pub documents_kept : Select → List Fields → List Fields
-documents_kept s documents = filter (λ d. is_kept s (Some d ∷ [])) documents
 
 -- What terms mean over a tuple, in places that want no kind.
 abbrev pub values_of : Select → Tuple → List Term → List (Option Value)
@@ -39,6 +44,6 @@ values_of s tuple terms = map (λ t. meaning (scope_of s) tuple t None) terms
 abbrev pub output_of : Select → Tuple → Output
 output_of s tuple = record { items = values_of s tuple (item_terms s); doc = if s.star then side_at tuple 0 else None; keys = values_of s tuple (key_terms s) }
 
--- The answer to a question over the documents of its table: the tuples that the condition keeps, each as a row; of rows that are alike the first, if they are to be distinct; in the order of the keys; as many as the limit admits.
-abbrev pub answer_among : Select → List Fields → List ℕ
-answer_among s documents = finished s.distinct (map (λ k. k.descending) s.keys) s.limit s.star (map (output_of s) (filter (is_kept s) (tuples_of documents)))
+-- The answer to a question over the documents of its tables: the tuples that the condition keeps, each as a row; of rows that are alike the first, if they are to be distinct; in the order of the keys; as many as the limit admits.
+abbrev pub answer_among : Select → List (List Fields) → List ℕ
+answer_among s tables = finished s.distinct (map (λ k. k.descending) s.keys) s.limit s.star (map (output_of s) (filter (is_kept s) (tuples_of tables)))

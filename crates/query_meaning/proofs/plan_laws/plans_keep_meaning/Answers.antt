@@ -1,5 +1,8 @@
-use Rattle.query_meaning.proofs.PlansAnswer.{answered}
+use Rattle.query_meaning.proofs.PlansAnswer.{answered, serves}
 use Rattle.query_meaning.proofs.plan_laws.plans_keep_meaning.Goals as goal
 
 pub returns : goal.returns
-returns c = record { law = λ question plan is documents. answered c.resolving_keeps_meaning.ensures.kept question plan is documents }
+returns c = record {
+  law = λ question plan is. answered c.resolving_keeps_meaning.ensures.kept question plan is;
+  serve = λ question plan is. serves c.resolving_keeps_meaning.ensures.kept question plan is;
+}

@@ -8,7 +8,7 @@ use Rattle.reservoir_record.specs.declared.fields.Field.{Field}
 use Rattle.document_records.specs.ReadBack.{CanBeRead}
 use Rattle.document_records.specs.StoredDocument.{pairs_of, document_stored, IsKept}
 use Rattle.sql_eval.specs.declared.key_plan.KeyPlan.{KeyPlan}
-use Rattle.query_meaning.specs.Plans.{at_most, most_needed, rows_by}
+use Rattle.query_meaning.specs.Plans.{at_most, most_needed, rows_alone}
 use Rattle.commit_core.specs.StoredRow.{path_of, is_kept_along, row_along}
 use Rattle.commit_core.proofs.Loads.{documents-rows_from}
 use Rattle.commit_core.proofs.StoredRows.{all_readable, paths_named, rows_ordered, cells_tested, needed_found, All-at_most}
@@ -110,5 +110,5 @@ returns c =
     let needed = ap (map (λ r. r.now)) c.deref-4.ensures.value ∙ c.in_ok-needed.ensures.ok ∙ (λ i. at_most most (filter (is_kept_along (paths_is i) plan.test) (c.deref-2.ensures.value i))) in
     let same = (λ i. map (row_along attributes ((c.deref-3.ensures.value ∙ c.in_ok-paths.ensures.ok) i) plan.star) (needed i))
     ∙ needed_found law attributes once plan columns most records kept
-    ∙ ap (rows_by plan columns) (sym (documents-rows_from 0 (map (document_stored (pairs_of attributes)) records))) in
+    ∙ ap (rows_alone plan columns) (sym (documents-rows_from 0 (map (document_stored (pairs_of attributes)) records))) in
     record { ok = rw (← c.self.view_is) (IfOk-weaker c.rows_along.result _ _ (λ rows h. h ∙ same) c.rows_along.ensures.ok) }

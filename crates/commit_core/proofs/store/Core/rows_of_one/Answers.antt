@@ -1,0 +1,63 @@
+use Rattle.std.proofs.Common.{◌≡◌, ◌∙◌, ℕ, List, [], ◌∷◌, Option, Some, map, slice_get, sym, ap, subst, rules}
+use Rattle.std.proofs.lemmas.Option.{same_Some}
+use Rattle.std.proofs.lemmas.Result.{IfOk-weaker}
+use Rattle.doc_values.specs.Doc.{Fields}
+use Rattle.doc_values.specs.declared.col_ref.ColRef.{ColRef}
+use Rattle.sql_tree.specs.declared.select.Select.{Select}
+use Rattle.sql_tree.specs.declared.table.Table.{Table}
+use Rattle.sql_eval.specs.declared.select_plan.SelectPlan.{SelectPlan}
+use Rattle.type_rules.specs.Plan.{IsPlanOf}
+use Rattle.row_columns.specs.Contents.{Cells}
+use Rattle.query_meaning.specs.Plans.{rows_alone, rows_under}
+use Rattle.commit_core.specs.Commits.{texts_of, state_of}
+use Rattle.commit_core.specs.Plan.{Plan}
+use Rattle.commit_core.specs.Planned.{IsReadAs}
+use Rattle.commit_core.specs.Query.{documents_asked}
+use Rattle.commit_core.specs.State.{State, IsState, Row, Collection, collection_at, documents_at, documents_of_rows}
+use Rattle.commit_core.proofs.States.{rows_found-documents}
+use Rattle.commit_core.proofs.store.Core.rows_of_one.Goals as goal
+
+-- the documents of the collection that is found are those that a question over it alone asks for
+asked_found : (s : Select) (one : Table) (names : List (List ℕ)) (name : List ℕ) (state : State) → s.tables ≡ one ∷ [] → names ≡ map (λ (t : Table). t.collection) s.tables → slice_get names 0 ≡ Some name
+    → documents_at name state ∷ [] ≡ documents_asked s state
+asked_found s one names name state lone tables first =
+    let same : one.collection ≡ name = same_Some one.collection name (ap (λ (ts : List Table). slice_get (map (λ (t : Table). t.collection) ts) 0) (sym lone) ∙ ap (λ (ns : List (List ℕ)). slice_get ns 0) (sym tables) ∙ first) in
+    ap (λ (n : List ℕ). documents_at n state ∷ []) (sym same) ∙ ap (λ (ts : List Table). map (λ (t : Table). documents_at t.collection state) ts) (sym lone)
+
+-- What a plan reads of the documents of its one table is what is read for the question.
+abbrev ReadsWhatIsAsked : Type 0
+ReadsWhatIsAsked = (question : Select) (plan : SelectPlan) (columns : List ColRef) → IsPlanOf question plan → plan.refs ≡ columns ∷ [] → (documents : List Fields) → rows_alone plan columns documents ∷ [] ≡ rows_under plan.refs question (documents ∷ [])
+
+-- a plan has the references of one table
+one_list : (resolved : SelectPlan) (plan : Plan) (columns : List ColRef) → IsReadAs resolved plan → slice_get resolved.refs 0 ≡ Some columns → resolved.refs ≡ columns ∷ []
+one_list resolved plan columns asked first =
+    let lone = asked.resolves.refs in
+    lone ∙ ap (λ (cs : List ColRef). cs ∷ []) (same_Some _ columns (ap (λ (refs : List (List ColRef)). slice_get refs 0) (sym lone) ∙ first))
+
+pub rows-requires-clause-ordered : goal.rows-requires-clause-ordered
+rows-requires-clause-ordered c =
+    let kept : IsState c.self.inside.collections = subst IsState (sym c.self.invariant) (c.states_keep_the_rules.ensures (texts_of c.self.inside.commits.items)) in
+    rows_found-documents c.text.result.now c.self.inside.collections c.in-Some-get-2.table.now kept (sym c.in-Some-get-2.ensures.exact)
+
+pub rows-requires-clause-tested : goal.rows-requires-clause-tested
+rows-requires-clause-tested c = let asked = c.requires.1 in c.plans_can_be_run.ensures.tested asked.question c.args.plan.now asked.resolves asked.runs
+
+-- the rows of documents of the collection of a name
+found_in : ReadsWhatIsAsked → (plan : SelectPlan) (columns : List ColRef) (name : List ℕ) (state : State) (documents : List Fields) (rows : List Cells) → slice_get plan.from.tables 0 ≡ Some name → slice_get plan.refs 0 ≡ Some columns
+    → documents_at name state ≡ documents → rows ≡ rows_alone plan columns documents
+    → (p : Plan) (asked : IsReadAs plan p) → rows ∷ [] ≡ rows_under plan.refs asked.question (documents_asked asked.question state)
+found_in reads plan columns name state documents rows first one found is p asked =
+    let s = asked.question in
+    ap (λ (read : List Cells). read ∷ []) (is ∙ ap (rows_alone plan columns) (sym found))
+    ∙ reads s plan columns asked.resolves (one_list plan p columns asked one) (documents_at name state)
+    ∙ ap (rows_under plan.refs s) (asked_found s asked.asked.table plan.from.tables name state asked.asked.tables asked.resolves.tables first)
+
+pub returns-in-Some-get-2 : goal.returns-in-Some-get-2
+returns-in-Some-get-2 c =
+    let plan = c.args.plan.now in
+    let table = c.in-Some-get-2.table.now in
+    let first : slice_get plan.from.tables 0 ≡ Some c.text.result.now = search rules in
+    let one : slice_get plan.refs 0 ≡ Some c.as_slice.result.now = search rules in
+    let found : documents_at c.text.result.now (state_of c.self.inside.commits.items) ≡ map (λ (row : Row). row.document) table.rows =
+    ap (documents_at c.text.result.now) (sym c.self.invariant) ∙ ap documents_of_rows (sym c.in-Some-get-2.ensures.exact) in
+    record { ok = rw (← c.self.view_is) (IfOk-weaker c.rows.result _ _ (λ rows h. found_in c.plans_read_what_is_asked.ensures.law plan c.as_slice.result.now c.text.result.now (state_of c.self.inside.commits.items) (map (λ (row : Row). row.document) table.rows) rows first one found h) c.rows.ensures.ok) }
