@@ -9,7 +9,7 @@ use std::alloc::{AllocError, Global};
 
 /// The reply to a text over all commits. An accepted write is one more commit, of the caller.
 pub fn answer(alloc: Global, caller: u32, text: &str, store: &mut Core) -> Result<Reply, AllocError>
-    ensures ok { IfOk result (λ reply. IsWrite caller text.now store.old store.new reply) }
+    ensures ok { IfOk result (λ reply. IsWrite caller text.now store.old.commits store.new.commits reply) }
     ensures memory { OnErr result (store.new ≡ store.old) }
 {
     let prepared = prepare(alloc, text)?;
@@ -22,7 +22,7 @@ pub fn answer(alloc: Global, caller: u32, text: &str, store: &mut Core) -> Resul
 
 fn answer_query(store: &Core, prepared: &Prepared) -> Result<Reply, AllocError>
     requires { sort_of (plan_of prepared.now) ≡ PreparedSort.Read }
-    ensures ok { IfOk result (λ reply. reply ≡ reply_at (length store.now) (told_over store.now prepared.now)) }
+    ensures ok { IfOk result (λ reply. reply ≡ reply_at (length store.now.commits) (told_over store.now.commits prepared.now)) }
 {
     let mut reading = store.begin(prepared)?;
     store.reread(&mut reading)?;

@@ -14,7 +14,7 @@ const SERIAL: u32 = 0;
 /// The serial run of a script, with the store that its commits make.
 pub fn run_lines(alloc: Global, script: &Script) -> Result<(Ran, Core), AllocError>
     ensures serial { IfOk result (λ done. IsSerial script.now done.0) }
-    ensures stored { IfOk result (λ done. texts_of done.1 ≡ texts_at script.now done.0.order) }
+    ensures stored { IfOk result (λ done. texts_of done.1.commits ≡ texts_at script.now done.0.order) }
 {
     let lines = script.items();
     let mut ran = Ran::with_room(alloc, lines.len())?;

@@ -21,15 +21,15 @@ pub fn sinew_serial<S: Source, W: Sink>(
     source: &mut S,
     sink: &mut W,
 ) -> Status
-    requires { store.old ≡ [] }
+    requires { store.old.commits ≡ [] }
     ensures done { result ≡ Status.Done →
-        IsDone (S.left source.old) (S.left source.new) (W.taken sink.old) (W.taken sink.new) store.new }
+        IsDone (S.left source.old) (S.left source.new) (W.taken sink.old) (W.taken sink.new) store.new.commits }
     ensures script { result ≡ Status.Script →
-        IsRefused (S.left source.old) (S.left source.new) (W.taken sink.old) (W.taken sink.new) store.new }
-    ensures read { result ≡ Status.Read → IsUnwritten (W.taken sink.old) (W.taken sink.new) store.new }
+        IsRefused (S.left source.old) (S.left source.new) (W.taken sink.old) (W.taken sink.new) store.new.commits }
+    ensures read { result ≡ Status.Read → IsUnwritten (W.taken sink.old) (W.taken sink.new) store.new.commits }
     ensures write { result ≡ Status.Write →
-        IsBroken (S.left source.old) (S.left source.new) (W.taken sink.old) (W.taken sink.new) store.new }
-    ensures memory { result ≡ Status.Memory → IsUnwritten (W.taken sink.old) (W.taken sink.new) store.new }
+        IsBroken (S.left source.old) (S.left source.new) (W.taken sink.old) (W.taken sink.new) store.new.commits }
+    ensures memory { result ≡ Status.Memory → IsUnwritten (W.taken sink.old) (W.taken sink.new) store.new.commits }
     ensures words { result ≢ Status.Words }
 
     // Whatever the status, no more is read than one byte beyond what a script may have.

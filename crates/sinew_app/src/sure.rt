@@ -19,12 +19,12 @@ pub fn sinew_in_memory(
     source: &mut SureSource,
     sink: &mut SureSink,
 ) -> Status
-    requires { store.old ≡ [] }
+    requires { store.old.commits ≡ [] }
     ensures done { result ≡ Status.Done →
-        PrintsRun source.old.left source.new.left (told_bytes sink.old) (told_bytes sink.new) store.new }
+        PrintsRun source.old.left source.new.left (told_bytes sink.old) (told_bytes sink.new) store.new.commits }
     ensures script { result ≡ Status.Script →
-        PrintsRefusal source.old.left source.new.left (told_bytes sink.old) (told_bytes sink.new) store.new }
-    ensures memory { result ≡ Status.Memory → IsUnwritten (told_bytes sink.old) (told_bytes sink.new) store.new }
+        PrintsRefusal source.old.left source.new.left (told_bytes sink.old) (told_bytes sink.new) store.new.commits }
+    ensures memory { result ≡ Status.Memory → IsUnwritten (told_bytes sink.old) (told_bytes sink.new) store.new.commits }
     ensures most { GaveAtMost (most_script_bytes + 1) (Some source.old.left) (Some source.new.left) }
     ensures decided { IsDecided (script_of source.old.left) result }
 {

@@ -20,7 +20,7 @@ pub fn write_run<W: Sink>(
     sink: &mut W,
 ) -> Result<Written, AllocError>
     ensures ok { IfOk result (λ written.
-        WritesRun written (W.taken sink.old) (W.taken sink.new) script.now store.new) }
+        WritesRun written (W.taken sink.old) (W.taken sink.new) script.now store.new.commits) }
     ensures memory_store { OnErr result (store.new ≡ store.old) }
     ensures memory_sink { OnErr result (W.taken sink.new ≡ W.taken sink.old) }
     ensures cause { HasCause (W.faults sink.old) (W.faults sink.new) (IsOkAnd result IsFailure) }

@@ -2,6 +2,7 @@
 use Rattle.std.specs.Prelude.{◌≡◌, ℕ, List, take, Some}
 use Rattle.row_columns.specs.Contents.{Cells}
 use Rattle.commit_core.specs.Plan.{plan_of}
+use Rattle.commit_core.specs.Replies.{told_of, state_after}
 use Rattle.commit_core.specs.Commits.{IsWrite}
 use Rattle.commit_core.specs.Agreement.{ReadingOf, Agrees, sort_of}
 use Rattle.commit_core.specs.declared.entry.Entry.{Entry}
@@ -13,10 +14,16 @@ abbrev pub LeavesOneThing : Type 0
 LeavesOneThing = (caller : ℕ) (text : List ℕ) (old one other : List Entry) (first second : Reply) →
     IsWrite caller text old one first → IsWrite caller text old other second → (one ≡ other) × (first ≡ second)
 
--- Readings of one text at one number, over commits of which the first so many are the same, have read the same rows, once both have read.
+-- Readings of one text under the same references at one number, over commits of which the first so many are the same, have read the same rows, once both have read.
 abbrev pub HoldsOneThing : Type 0
-HoldsOneThing = (a b : ReadingOf) (texts others : List (List ℕ)) (one other : List Cells) → Agrees a texts → Agrees b others →
-    a.text ≡ b.text → a.at ≡ b.at → take a.at texts ≡ take a.at others → a.rows ≡ Some one → b.rows ≡ Some other → one ≡ other
+HoldsOneThing = (a b : ReadingOf) (texts others : List (List ℕ)) (one other : List (List Cells)) → Agrees a texts → Agrees b others →
+    a.text ≡ b.text → a.references ≡ b.references → a.at ≡ b.at → take a.at texts ≡ take a.at others → a.rows ≡ Some one → b.rows ≡ Some other → one ≡ other
+
+-- Readings of one text under the same references that have read the same rows are told the same, each over the commits that it is made over, whichever these are.
+abbrev pub IsToldByItsRows : Type 0
+IsToldByItsRows = (a b : ReadingOf) (texts others : List (List ℕ)) (rows : List (List Cells)) → Agrees a texts → Agrees b others →
+    a.text ≡ b.text → a.references ≡ b.references → a.rows ≡ Some rows → b.rows ≡ Some rows →
+    told_of a.text (state_after (take a.at texts)) ≡ told_of b.text (state_after (take b.at others))
 
 -- A reading that agrees with commits is one of a question.
 abbrev pub IsOfAQuestion : Type 0

@@ -14,6 +14,7 @@ mod states;
 
 pub use commits::{
     a_write_leaves_one_thing, readings_are_of_questions, readings_of_one_number_hold_one_thing,
+    what_was_read_decides_what_is_told,
 };
 pub use ends::{
     a_broken_run_leaves_its_commits, a_broken_writing_leaves_a_front, a_done_run_leaves_one_thing,
@@ -30,6 +31,6 @@ pub use runs::{
     numbers_are_at_most_all_commits, numbers_of_a_session_never_fall,
 };
 pub use states::{
-    documents_have_their_pairs, names_find_their_collections, pairs_are_told_apart,
-    rows_are_numbered_from_zero, rows_ascend, states_keep_their_limits, what_stands_is_a_document,
+    documents_have_their_pairs, names_find_their_collections, pairs_are_told_apart, rows_are_numbered_on,
+    rows_ascend, states_keep_their_limits, what_stands_is_a_document,
 };

@@ -1,5 +1,5 @@
 // Laws of the definitions of states.
-ghost use Rattle.sinew_laws.specs.States.{HasOnePlaceForAPair, HasPairsOfAllFields, IsAMap, KeepsItsLimits, KeepsRowsInOrder, NumbersRowsFromZero, WhatStandsIsADocument};
+ghost use Rattle.sinew_laws.specs.States.{HasOnePlaceForAPair, HasPairsOfAllFields, IsAMap, KeepsItsLimits, KeepsRowsInOrder, NumbersRowsBelowTheNext, NumbersRowsOn, WhatStandsIsADocument};
 
 /// Law: in a state that keeps the rules each collection is the one that its name finds.
 pub fn names_find_their_collections()
@@ -33,7 +33,10 @@ pub fn documents_have_their_pairs()
     ensures { HasPairsOfAllFields }
 {}
 
-/// Law: in the state after any commits the rows of each collection are numbered from 0 on.
-pub fn rows_are_numbered_from_zero()
-    ensures { NumbersRowsFromZero }
+/// Law: in the state after any commits the number of a row is at least its place and below that of the next row, which is
+/// at most that of the versions written. An accepted load puts a row for each of its documents behind the others, in their
+/// order, numbered on from the next row's number; the first load of a collection numbers them from 0 on.
+pub fn rows_are_numbered_on()
+    ensures below { NumbersRowsBelowTheNext }
+    ensures loads { NumbersRowsOn }
 {}

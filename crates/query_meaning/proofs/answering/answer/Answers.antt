@@ -9,13 +9,13 @@ use Rattle.query_meaning.proofs.answering.answer.Goals as goal
 
 pub plain_answer-requires-clause-items : goal.plain_answer-requires-clause-items
 plain_answer-requires-clause-items c =
-    rw c.in_ok-tuples.ensures.ok (subst (λ (tables : List (List Cells)). All (λ tuple. All (CanEvaluate tuple) c.args.plan.now.items) (tuples_of tables)) c.rows_of_one.ensures.exact c.requires.items)
+    rw c.in_ok-tuples.ensures.ok (subst (λ (tables : List (List Cells)). All (λ tuple. All (CanEvaluate tuple) c.args.plan.now.items) (tuples_of tables)) c.rows_of_one-rows.ensures.exact c.requires.items)
 
 pub plain_answer-requires-clause-keys : goal.plain_answer-requires-clause-keys
 plain_answer-requires-clause-keys c =
-    rw c.in_ok-tuples.ensures.ok (subst (λ (tables : List (List Cells)). All (λ tuple. All (λ key. CanEvaluate tuple key.expr) c.args.plan.now.keys) (tuples_of tables)) c.rows_of_one.ensures.exact c.requires.keys)
+    rw c.in_ok-tuples.ensures.ok (subst (λ (tables : List (List Cells)). All (λ tuple. All (λ key. CanEvaluate tuple key.expr) c.args.plan.now.keys) (tuples_of tables)) c.rows_of_one-rows.ensures.exact c.requires.keys)
 
 pub returns : goal.returns
 returns c =
-    let same = ap (answer_of_plan c.args.plan.now) (sym c.rows_of_one.ensures.exact) in
+    let same = ap (answer_of_plan c.args.plan.now) (sym c.rows_of_one-rows.ensures.exact) in
     record { ok = IfOk-weaker c.plain_answer.result _ _ (λ body h. h ∙ same) (rw c.in_ok-tuples.ensures.ok at c.plain_answer.ensures.ok) }
