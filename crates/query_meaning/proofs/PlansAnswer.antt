@@ -28,7 +28,7 @@ use Rattle.exec_join.specs.Filter.{keeps}
 use Rattle.exec_finish.specs.Answer.{answer_text, limited, finished}
 use Rattle.exec_finish.specs.Order.{put_in, ordered}
 use Rattle.exec_finish.specs.Plain.{document_of, plain_row}
-use Rattle.query_meaning.specs.Question.{alone, tuples_of, is_kept, values_of, output_of, answer_among}
+use Rattle.query_meaning.specs.Question.{alone, is_kept, values_of, output_of, answer_among}
 use Rattle.query_meaning.specs.Plans.{cells_under, most_needed, at_most, documents_needed, rows_under, Serve, rows_alone, passes, output_by, answer_of_plan}
 
 -- ---- lists

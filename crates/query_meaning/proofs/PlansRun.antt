@@ -1,5 +1,5 @@
 -- A plan that can be run can be run over rows whose numbers are those of documents.
-use Rattle.std.proofs.Common.{◌≡◌, ◌∙◌, refl, ap, arith, subst, ℕ, zero, suc, Bool, true, List, [], ◌∷◌, length, map, Option, Some, None, option_and_then, slice_get}
+use Rattle.std.proofs.Common.{◌≡◌, ◌∙◌, refl, ap, arith, subst, ℕ, zero, suc, true, List, [], ◌∷◌, length, map, Option, Some, None, option_and_then, slice_get}
 use Rattle.std.specs.Prelude.{All, IfSome}
 use Rattle.std.specs.List.{AllByRecursion as EachIs}
 use Rattle.std.proofs.lemmas.List.Elements.{All-from_recursion, recursion_from_All}
