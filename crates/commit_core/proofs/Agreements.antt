@@ -26,7 +26,8 @@ use Rattle.commit_core.specs.Plan.{Plan, refused, read, write, plan_of}
 use Rattle.commit_core.specs.Replies.{reply_at, told_plan, told_of, state_after}
 use Rattle.commit_core.proofs.States.{documents_at-documents}
 use Rattle.commit_core.specs.Planned.{IsReadAs}
-use Rattle.commit_core.specs.Commits.{texts_of, state_of}
+use Rattle.commit_core.specs.Commits.{texts_of}
+use Rattle.commit_core.specs.OneWrite.{state_of}
 use Rattle.commit_core.specs.Agreement.{Agrees}
 use Rattle.commit_core.specs.declared.entry.Entry.{Entry}
 
@@ -76,8 +77,8 @@ Agrees-all serve text resolved references entries rows asked same_references fou
       each = ap length (sym same_references) ∙ each_table resolved (plan_of text) asked;
       serve = subst (λ refs. Serve refs question) same_references (serve question resolved asked.resolves);
       found = λ others same. Some-injective same ∙ found
-      ∙ ap (λ refs. rows_under refs question (documents_asked question (state_of entries))) same_references
-      ∙ ap (λ texts. rows_under references question (documents_asked question (state_after texts))) (sym (take_all (length entries) (texts_of entries) whole));
+          ∙ ap (λ refs. rows_under refs question (documents_asked question (state_of entries))) same_references
+          ∙ ap (λ texts. rows_under references question (documents_asked question (state_after texts))) (sym (take_all (length entries) (texts_of entries) whole));
     }
 
 -- ---- what is read can be computed with

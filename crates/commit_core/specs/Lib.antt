@@ -4,6 +4,7 @@ pub mod Write
 pub mod Plan
 pub mod Replies
 pub mod Commits
+pub mod OneWrite
 pub mod Agreement
 pub mod Planned
 pub mod StoredTable

@@ -89,11 +89,12 @@ impl Reading {
         plans_keep_meaning();
         plans_can_be_run();
         let Reading {
-            plan, at, tables, ..
+            plan,
+            at,
+            tables,
+            ..
         } = self;
-        let Some(tables) = tables else {
-            unreachable!()
-        };
+        let Some(tables) = tables else { unreachable!() };
         let body = answer(&plan, tables)?;
         Ok(Reply {
             at,

@@ -27,7 +27,8 @@ pub struct Core {
 
 impl Model for Core {
     ghost use Rattle.std.specs.Prelude.{◌≡◌};
-    ghost use Rattle.commit_core.specs.Commits.{CoreOf, state_of};
+    ghost use Rattle.commit_core.specs.Commits.{CoreOf};
+    ghost use Rattle.commit_core.specs.OneWrite.{state_of};
 
     ghost Value = { CoreOf };
 
@@ -39,7 +40,8 @@ impl Model for Core {
 impl Core {
     ghost use Rattle.commit_core.specs.Agreement.{Agrees, sort_of};
     ghost use Rattle.query_meaning.specs.Plans.{rows_under};
-    ghost use Rattle.commit_core.specs.Commits.{IsWrite, texts_of, told_over, state_of};
+    ghost use Rattle.commit_core.specs.Commits.{texts_of};
+    ghost use Rattle.commit_core.specs.OneWrite.{IsWrite, told_over, state_of};
     ghost use Rattle.commit_core.specs.Plan.{Plan, plan_of, write};
     ghost use Rattle.commit_core.specs.Planned.{IsReadAs};
     ghost use Rattle.commit_core.specs.Query.{documents_asked};

@@ -8,7 +8,8 @@ use Rattle.script_reader.proofs.Apart.{above}
 use Rattle.script_reader.specs.Laws.{FollowLinesAbove}
 use Rattle.script_reader.specs.Script.{IsScript}
 use Rattle.script_reader.specs.declared.line.Line.{Line}
-use Rattle.commit_core.specs.Commits.{IsWrite, texts_of, with_entry}
+use Rattle.commit_core.specs.Commits.{texts_of}
+use Rattle.commit_core.specs.OneWrite.{IsWrite, with_entry}
 use Rattle.commit_core.specs.Replies.{Told, told_of, reply_at, state_after}
 use Rattle.commit_core.specs.declared.entry.Entry.{Entry}
 use Rattle.commit_core.specs.declared.reply.Reply.{Reply}

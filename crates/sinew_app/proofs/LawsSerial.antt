@@ -4,7 +4,7 @@ use Rattle.std.proofs.lemmas.List.{take_all}
 use Rattle.std.proofs.lemmas.Option.{get_or_from_slice_get}
 use Rattle.script_reader.specs.Script.{IsScript}
 use Rattle.script_reader.specs.declared.line.Line.{Line}
-use Rattle.commit_core.specs.Commits.{told_over, with_entry}
+use Rattle.commit_core.specs.OneWrite.{told_over, with_entry}
 use Rattle.commit_core.specs.Replies.{Told, reply_at}
 use Rattle.commit_core.specs.declared.entry.Entry.{Entry}
 use Rattle.commit_core.specs.declared.reply.Reply.{Reply}

@@ -2,7 +2,8 @@
 use Rattle.std.proofs.Common.{◌≡◌, ℕ, List, length, take, false, refl, subst, arith}
 use Rattle.std.proofs.lemmas.List.{length-map, take_all}
 use Rattle.commit_core.specs.Agreement.{ReadingOf, sort_of}
-use Rattle.commit_core.specs.Commits.{IsWrite, texts_of, told_over}
+use Rattle.commit_core.specs.Commits.{texts_of}
+use Rattle.commit_core.specs.OneWrite.{IsWrite, told_over}
 use Rattle.commit_core.specs.Plan.{Plan, refused, read, write, plan_of}
 use Rattle.commit_core.specs.Replies.{told_of, told_plan, reply_at, state_after}
 use Rattle.commit_core.specs.State.{State}

@@ -1,6 +1,6 @@
 ghost use Rattle.std.specs.Prelude.{◌≡◌, length, IfOk, OnErr};
 ghost use Rattle.commit_core.specs.Agreement.{sort_of};
-ghost use Rattle.commit_core.specs.Commits.{IsWrite, told_over};
+ghost use Rattle.commit_core.specs.OneWrite.{IsWrite, told_over};
 ghost use Rattle.commit_core.specs.Plan.{plan_of};
 ghost use Rattle.commit_core.specs.Replies.{reply_at};
 

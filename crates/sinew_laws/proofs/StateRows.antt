@@ -1,5 +1,5 @@
 -- The numbers of rows: they are told apart, and a load numbers its rows on.
-use Rattle.std.proofs.Common.{◌≡◌, ◌⊎◌, inl, inr, ℕ, zero, suc, ◌+◌, ◌<◌, Bool, true, false, cond, List, [], ◌∷◌, ◌++◌, length, fold, Option, Some, None, unwrap_or, refl, sym, ap, ◌∙◌, subst, arith, length-append}
+use Rattle.std.proofs.Common.{◌≡◌, ◌⊎◌, inl, inr, ℕ, zero, suc, ◌+◌, ◌<◌, ◌≤◌, Bool, true, false, cond, List, [], ◌∷◌, ◌++◌, length, fold, Option, Some, None, unwrap_or, refl, sym, ap, ◌∙◌, subst, arith, length-append}
 use Rattle.std.specs.Prelude.{slice_get}
 use Rattle.std.specs.Option.{option_map_or}
 use Rattle.std.specs.List.{AllByRecursion as EachIs, position_or_len}
@@ -105,11 +105,11 @@ below_the_next texts name collection found =
     let state = state_after texts in
     let place : slice_get state (position_or_len (is_named name) state) ≡ Some collection = sym (find_at (is_named name) state) ∙ found in
     let numbered = numbered_at state (position_or_len (is_named name) state) collection (numbered_after texts opening tt) place in
-    let rows = length collection.rows in
-    (λ i row e.
+    let each : (i : ℕ) (row : Row) → slice_get collection.rows i ≡ Some row → (i ≤ row.number) × (row.number < collection.next_row) = λ i row e.
     let number = numbered.places i row e in
     let within = slice_get_within collection.rows i row e in
-    (omega (arith, number), omega (arith, number, within, numbered.next))), omega (arith, numbered.next, numbered.versions)
+    (omega (arith, number), omega (arith, number, within, numbered.next)) in
+    (each, omega (arith, numbered.next, numbered.versions))
 
 -- ---- what a load adds
 

@@ -3,7 +3,7 @@ use Rattle.std.specs.Prelude.{◌≡◌, ℕ, List, take, Some}
 use Rattle.row_columns.specs.Contents.{Cells}
 use Rattle.commit_core.specs.Plan.{plan_of}
 use Rattle.commit_core.specs.Replies.{told_of, state_after}
-use Rattle.commit_core.specs.Commits.{IsWrite}
+use Rattle.commit_core.specs.OneWrite.{IsWrite}
 use Rattle.commit_core.specs.Agreement.{ReadingOf, Agrees, sort_of}
 use Rattle.commit_core.specs.declared.entry.Entry.{Entry}
 use Rattle.commit_core.specs.declared.reply.Reply.{Reply}

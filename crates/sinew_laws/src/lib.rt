@@ -31,6 +31,6 @@ pub use runs::{
     numbers_are_at_most_all_commits, numbers_of_a_session_never_fall,
 };
 pub use states::{
-    documents_have_their_pairs, names_find_their_collections, pairs_are_told_apart, rows_are_numbered_on,
-    rows_ascend, states_keep_their_limits, what_stands_is_a_document,
+    documents_have_their_pairs, names_find_their_collections, pairs_are_told_apart,
+    rows_are_numbered_on, rows_ascend, states_keep_their_limits, what_stands_is_a_document,
 };

@@ -3,7 +3,8 @@ use Rattle.doc_values.specs.declared.col_ref.ColRef.{ColRef}
 use Rattle.row_columns.specs.Contents.{Cells}
 use Rattle.query_meaning.specs.Plans.{rows_under}
 use Rattle.query_meaning.specs.Runs.{AreRowsFor}
-use Rattle.commit_core.specs.Commits.{texts_of, state_of}
+use Rattle.commit_core.specs.Commits.{texts_of}
+use Rattle.commit_core.specs.OneWrite.{state_of}
 use Rattle.commit_core.specs.Plan.{plan_of}
 use Rattle.commit_core.specs.Query.{documents_asked}
 use Rattle.commit_core.proofs.Agreements.{Agrees-all, read_storable, each_table}

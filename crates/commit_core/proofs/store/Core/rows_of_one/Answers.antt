@@ -9,7 +9,8 @@ use Rattle.sql_eval.specs.declared.select_plan.SelectPlan.{SelectPlan}
 use Rattle.type_rules.specs.Plan.{IsPlanOf}
 use Rattle.row_columns.specs.Contents.{Cells}
 use Rattle.query_meaning.specs.Plans.{rows_alone, rows_under}
-use Rattle.commit_core.specs.Commits.{texts_of, state_of}
+use Rattle.commit_core.specs.Commits.{texts_of}
+use Rattle.commit_core.specs.OneWrite.{state_of}
 use Rattle.commit_core.specs.Plan.{Plan}
 use Rattle.commit_core.specs.Planned.{IsReadAs}
 use Rattle.commit_core.specs.Query.{documents_asked}
