@@ -1,4 +1,4 @@
--- What a question means over the documents of its tables. No text spells a second table yet.
+-- What a question means over the documents of its tables, which are joined as by a comma. No text spells a second table yet.
 use Rattle.std.specs.Prelude.{ℕ, List, [], ◌∷◌, ◌++◌, Bool, true, fold, map, Option, Some, None, if◌then◌else◌}
 use Rattle.std.specs.List.{filter, flat_map}
 use Rattle.std.specs.Option.{option_map_or}
