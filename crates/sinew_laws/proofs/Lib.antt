@@ -1,5 +1,7 @@
 pub mod StateLemmas
+mod Positions
 pub mod StateRows
+pub mod TupleLemmas
 pub mod CommitLemmas
 pub mod RunLemmas
 pub mod EndInputs

@@ -13,6 +13,7 @@ use Rattle.commit_core.specs.State.{Row, Collection, State, IsCollection, openin
 use Rattle.commit_core.specs.Write.{Effect, accepted, full, loads, rows_from, new_collection, with_documents, with_load, is_full}
 use Rattle.commit_core.specs.Plan.{Plan, refused, read, write, plan_of}
 use Rattle.commit_core.specs.Replies.{told_effect, told_plan, next_state, state_left, state_behind, state_after}
+use Rattle.sinew_laws.proofs.Positions.{kept_before, stands_behind}
 use Rattle.sinew_laws.specs.States.{NumbersRowsBelowTheNext, NumbersRowsOn, HasRowsBehind, rows_at, next_at}
 
 -- ---- rows of a load
@@ -145,15 +146,6 @@ next_loaded : (name : List ℕ) (documents : List Fields) (state : State) → ne
 next_loaded name documents state =
     ap (λ (o : Option Collection). option_map_or (λ (c : Collection). c.next_row) o 0) (loaded_at name documents state)
     ∙ ap (λ (next : ℕ). next + length documents) (next_known name (collection_at name state))
-
-kept_before : (rows more : List Row) (i : ℕ) (row : Row) → slice_get rows i ≡ Some row → slice_get (rows ++ more) i ≡ Some row
-kept_before [] more i row e = absurd (cc)
-kept_before (r ∷ rows) more zero row e = e
-kept_before (r ∷ rows) more (suc i) row e = kept_before rows more i row e
-
-stands_behind : (rows more : List Row) (k : ℕ) → slice_get (rows ++ more) (length rows + k) ≡ slice_get more k
-stands_behind [] more k = let same : 0 + k ≡ k = omega arith in ap (slice_get more) same
-stands_behind (r ∷ rows) more k = let same : suc (length rows) + k ≡ suc (length rows + k) = omega arith in ap (slice_get (r ∷ (rows ++ more))) same ∙ stands_behind rows more k
 
 row_of_document : (next : ℕ) (documents : List Fields) (k : ℕ) (document : Fields) → slice_get documents k ≡ Some document
     → slice_get (rows_from next documents) k ≡ Some (record { number = next + k; document = document })

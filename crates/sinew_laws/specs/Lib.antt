@@ -4,3 +4,4 @@ pub mod Runs
 pub mod Ends
 pub mod Names
 pub mod Kinds
+pub mod Tuples

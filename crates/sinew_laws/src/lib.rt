@@ -1,4 +1,5 @@
-//! What follows of the definitions of symbols, names, kinds, states, commits, readings, runs and ends: laws, and no code.
+//! What follows of the definitions of symbols, names, kinds, tuples, states, commits, readings, runs and ends: laws, and
+//! no code.
 //!
 //! Its one promise is its laws. Most of them are false of some definition that says less, where no test and no worked
 //! row would show the difference. It knows nothing of how anything is computed.
@@ -11,6 +12,7 @@ mod kinds;
 mod names;
 mod runs;
 mod states;
+mod tuples;
 
 pub use commits::{
     a_write_leaves_one_thing, readings_are_of_questions, readings_of_one_number_hold_one_thing,
@@ -34,3 +36,4 @@ pub use states::{
     documents_have_their_pairs, names_find_their_collections, pairs_are_told_apart,
     rows_are_numbered_on, rows_ascend, states_keep_their_limits, what_stands_is_a_document,
 };
+pub use tuples::tuples_go_on_in_order;
