@@ -1,5 +1,5 @@
 -- When a reading agrees with all commits.
-use Rattle.std.proofs.Common.{◌≡◌, ◌≤◌, ◌∙◌, ◌==◌, refl, ℕ, Bool, true, false, cond, List, [], ◌∷◌, Option, Some, None, option_and_then, slice_get, length, map, sym, ap, subst, arith}
+use Rattle.std.proofs.Common.{◌≡◌, ◌≤◌, ◌∙◌, ◌==◌, refl, ℕ, Bool, true, false, cond, List, [], ◌∷◌, Option, Some, None, option_and_then, length, map, sym, ap, subst, arith}
 use Rattle.std.specs.Prelude.{All, IfSome, filter}
 use Rattle.std.specs.List.{AllByRecursion as EachIs}
 use Rattle.std.proofs.lemmas.List.Elements.{All-from_recursion, recursion_from_All, All-filter, All-take}

@@ -1,4 +1,4 @@
-use Rattle.std.proofs.Common.{◌≡◌, ◌∙◌, List, ℕ, Option, sym, ap, subst, take, length, false}
+use Rattle.std.proofs.Common.{◌∙◌, List, ℕ, Option, sym, ap, subst, take, false}
 use Rattle.std.specs.Prelude.{IfSome}
 use Rattle.std.proofs.lemmas.Option.{same_Some}
 use Rattle.row_columns.specs.Contents.{Cells}

@@ -1,6 +1,5 @@
-use Rattle.std.proofs.Common.{◌≡◌, List, length, sym, ap, subst}
+use Rattle.std.proofs.Common.{List, subst}
 use Rattle.doc_values.specs.declared.col_ref.ColRef.{ColRef}
-use Rattle.row_columns.specs.Contents.{Cells}
 use Rattle.query_meaning.specs.Plans.{rows_under}
 use Rattle.query_meaning.specs.Runs.{AreRowsFor}
 use Rattle.commit_core.specs.Commits.{texts_of}

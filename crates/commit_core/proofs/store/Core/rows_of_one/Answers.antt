@@ -1,4 +1,4 @@
-use Rattle.std.proofs.Common.{◌≡◌, ◌∙◌, ℕ, List, [], ◌∷◌, Option, Some, map, slice_get, sym, ap, subst, rules}
+use Rattle.std.proofs.Common.{◌≡◌, ◌∙◌, ℕ, List, [], ◌∷◌, Some, map, slice_get, sym, ap, subst, rules}
 use Rattle.std.proofs.lemmas.Option.{same_Some}
 use Rattle.std.proofs.lemmas.Result.{IfOk-weaker}
 use Rattle.doc_values.specs.Doc.{Fields}
@@ -14,7 +14,7 @@ use Rattle.commit_core.specs.OneWrite.{state_of}
 use Rattle.commit_core.specs.Plan.{Plan}
 use Rattle.commit_core.specs.Planned.{IsReadAs}
 use Rattle.commit_core.specs.Query.{documents_asked}
-use Rattle.commit_core.specs.State.{State, IsState, Row, Collection, collection_at, documents_at, documents_of_rows}
+use Rattle.commit_core.specs.State.{State, IsState, Row, documents_at, documents_of_rows}
 use Rattle.commit_core.proofs.States.{rows_found-documents}
 use Rattle.commit_core.proofs.store.Core.rows_of_one.Goals as goal
 

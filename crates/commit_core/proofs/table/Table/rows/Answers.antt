@@ -1,9 +1,9 @@
-use Rattle.std.proofs.Common.{◌≡◌, ◌∙◌, List, map, sym, ap, subst}
+use Rattle.std.proofs.Common.{◌∙◌, List, map, sym, ap, subst}
 use Rattle.std.specs.Prelude.{All}
 use Rattle.std.specs.List.{filter}
 use Rattle.std.proofs.lemmas.Result.{IfOk-weaker}
 use Rattle.std.proofs.lemmas.List.Elements.{All-from_recursion, recursion_from_All, All-filter}
-use Rattle.doc_values.specs.Doc.{Fields, IsDocument}
+use Rattle.doc_values.specs.Doc.{IsDocument}
 use Rattle.reservoir_record.specs.declared.fields.Field.{Field}
 use Rattle.document_records.specs.ReadBack.{CanBeRead}
 use Rattle.document_records.specs.StoredDocument.{pairs_of, document_stored, IsKept}
