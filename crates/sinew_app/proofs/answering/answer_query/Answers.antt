@@ -12,7 +12,7 @@ returns c =
       ok = IfOk-weaker _ _ _
           (λ reply answered. answered_over_all c.in_ok-reading.reading c.reread.new.reading c.args.prepared.now entries reply
           (ap (λ (r : ReadingOf). r.text) c.in_ok-reading.ensures.ok)
-          (c.in_ok-reread.ensures.exact.0, c.in_ok-reread.ensures.exact.1.0)
+          (c.in_ok-reread.ensures.exact.0, c.in_ok-reread.ensures.exact.1)
           (answered (texts_of entries) c.in_ok-reread.ensures.ok))
           c.finish.ensures.ok;
     }
