@@ -8,7 +8,7 @@ use Rattle.query_meaning.specs.Question.{answer_among}
 use Rattle.commit_core.specs.State.{State}
 use Rattle.commit_core.specs.Query.{documents_asked}
 use Rattle.commit_core.specs.Plan.{Plan, read, plan_of}
-use Rattle.commit_core.specs.Replies.{Told, told_of, told_plan, reply_at, state_after}
+use Rattle.commit_core.specs.Replies.{told_of, told_plan, reply_at, state_after}
 use Rattle.commit_core.specs.OneWrite.{IsWrite, told_over}
 use Rattle.commit_core.specs.Agreement.{ReadingOf, Agrees}
 use Rattle.commit_core.specs.declared.entry.Entry.{Entry}
