@@ -4,4 +4,6 @@ pub mod Sorting
 pub mod Comparing
 pub mod WholeLines
 pub mod AsTheyCome
+mod Numbers
+mod FirstRows
 mod Unescaped

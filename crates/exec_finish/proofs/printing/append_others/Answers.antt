@@ -3,7 +3,7 @@ use Rattle.std.proofs.lemmas.Option.{slice_get_read}
 use Rattle.doc_values.specs.Value.{printed}
 use Rattle.sql_eval.specs.Resolved.{value_over}
 use Rattle.exec_finish.proofs.Places.{drop_found, append_next}
-use Rattle.exec_finish.proofs.answering.append_others.Goals as goal
+use Rattle.exec_finish.proofs.printing.append_others.Goals as goal
 
 pub loop-item-preserved : goal.loop-item-preserved
 loop-item-preserved c =

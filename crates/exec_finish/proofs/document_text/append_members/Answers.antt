@@ -2,7 +2,7 @@ use Rattle.std.proofs.Common.{ℕ, List, ◌++◌, ◌+◌, map, flat_map, drop,
 use Rattle.doc_values.specs.declared.value.Value.{Value}
 use Rattle.exec_finish.specs.Answer.{member_text}
 use Rattle.exec_finish.proofs.Places.{drop_found, append_next}
-use Rattle.exec_finish.proofs.answer.append_members.Goals as goal
+use Rattle.exec_finish.proofs.document_text.append_members.Goals as goal
 
 pub loop-place-preserved : goal.loop-place-preserved
 loop-place-preserved c =

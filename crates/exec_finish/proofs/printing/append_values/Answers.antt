@@ -5,7 +5,7 @@ use Rattle.doc_values.specs.Value.{printed}
 use Rattle.sql_eval.specs.Resolved.{value_over}
 use Rattle.sql_eval.specs.Widths.{CanEvaluate}
 use Rattle.exec_finish.specs.Answer.{separated}
-use Rattle.exec_finish.proofs.answering.append_values.Goals as goal
+use Rattle.exec_finish.proofs.printing.append_values.Goals as goal
 
 pub append_others-requires : goal.append_others-requires
 append_others-requires c = All-rest (CanEvaluate c.args.tuple.now) c.in-Some.first.now c.in-Some.others.now c.args.items.now c.in-Some.ensures.cases.0 c.requires

@@ -1,7 +1,7 @@
 use Rattle.std.proofs.Common.{◌≡◌, ◌++◌, map, flat_map, drop, codes}
 use Rattle.doc_values.specs.Value.{printed}
 use Rattle.sql_eval.specs.Resolved.{value_over}
-use Rattle.exec_finish.proofs.answering.append_others.Given as goal
+use Rattle.exec_finish.proofs.printing.append_others.Given as goal
 
 -- the text so far and that of the values that are left make the text of all
 abbrev pub invariant-loop-item : goal.invariant-loop-item

@@ -6,7 +6,7 @@ use Rattle.sql_eval.specs.Widths.{CanEvaluate}
 use Rattle.exec_finish.specs.Answer.{row_line}
 use Rattle.exec_finish.specs.Plain.{row_by}
 use Rattle.exec_finish.proofs.AsTheyCome.{count_taken}
-use Rattle.exec_finish.proofs.answering.printed_first.Goals as goal
+use Rattle.exec_finish.proofs.printing.printed.Goals as goal
 
 pub append_tuple-requires : goal.append_tuple-requires
 append_tuple-requires c =
