@@ -1,11 +1,13 @@
 -- Rows that are told by numbers: what becomes of the numbers becomes of the rows.
-use Rattle.std.proofs.Common.{◌≡◌, ◌∙◌, ◌⊎◌, inl, inr, ℕ, zero, suc, ◌+◌, ◌<◌, List, [], ◌∷◌, ◌++◌, Bool, true, false, cond, not, ◌&&◌, ◌||◌, map, filter, length, get_or, Option, Some, None, option_map, option_and_then, slice_get, refl, sym, ap, true≢false, arith, zero-add, Bor, Ordering, is_lt, IsSortedBy}
+use Rattle.std.proofs.Common.{◌≡◌, ◌∙◌, ◌⊎◌, inl, inr, ℕ, zero, suc, ◌+◌, ◌<◌, List, [], ◌∷◌, ◌++◌, Bool, true, false, cond, not, ◌&&◌, ◌||◌, map, filter, length, get_or, Option, Some, None, option_map, option_and_then, slice_get, refl, sym, ap, subst, true≢false, arith, zero-add, Bor, Ordering, is_lt, IsSortedBy}
 use Rattle.std.specs.Fn.{Called, ComparesAs}
 use denote.Param.Members.{Mut}
 use Rattle.std.specs.Cmp.{IsStrictWeakOrder}
 use Rattle.std.specs.List.{list_any, range_with_len}
 use Rattle.std.specs.List.Sorted.{ties, IsStableBy}
 use Rattle.std.proofs.lemmas.Fn.{always_returns_same}
+use Rattle.std.specs.Prelude.{All}
+use Rattle.std.proofs.lemmas.List.FromFn.{map-range_with_len_more, get_or-range_with_len, length-range_with_len}
 use Rattle.std.proofs.lemmas.List.{get_or-map, length-map, map-append}
 use Rattle.std.proofs.lemmas.List.Elements.{filter_agree}
 use Rattle.std.proofs.lemmas.List.Sorted.{ranks_by}
@@ -56,6 +58,21 @@ keys_there (key ∷ keys) tuples k tuple there =
     ap (option_and_then (λ cell. cell)) (slice_get-map (λ t. value_over t key.expr) tuples k ∙ ap (option_map (λ t. value_over t key.expr)) there) in
     let rest = keys_there keys tuples k tuple there in
     λ i. first i ∷ rest i
+
+map_itself : (ns : List ℕ) → map (λ n. n) ns ≡ ns
+map_itself [] = refl
+map_itself (n ∷ ns) = ap (λ (rest : List ℕ). n ∷ rest) (map_itself ns)
+
+-- one number more
+pub range_more : (n : ℕ) → range_with_len 0 (n + 1) ≡ range_with_len 0 n ++ n ∷ []
+range_more n =
+    sym (map_itself (range_with_len 0 (n + 1))) ∙ map-range_with_len_more (λ m. m) 0 n n (zero-add n) ∙ ap (λ (ns : List ℕ). ns ++ n ∷ []) (map_itself (range_with_len 0 n))
+
+-- all are below their count
+pub all_below : (n : ℕ) → All (λ m. m < n) (range_with_len 0 n)
+all_below n k d lt =
+    let within : k < n = omega (arith, length-range_with_len 0 n) in
+    subst (λ m. m < n) (sym (get_or-range_with_len 0 n k d within ∙ zero-add k)) within
 
 -- the rows of all numbers are those of the tuples
 pub rows_all : (p : SelectPlan) (tuples : List Tuple) (n : ℕ) → n ≡ length tuples

@@ -36,7 +36,7 @@ impl<'a> Model for Alike<'a> {
 impl<'a> Alike<'a> {
     pub(crate) fn new(plan: &'a SelectPlan, tuple: Sides<'a>) -> Alike<'a>
         requires { All (CanEvaluate tuple) plan.now.items }
-        ensures exact { result ≡ plain_row plan.now.star plan.now.items [] tuple }
+        ensures exact { result ≡ plain_row plan.now.star plan.now.items [] tuple.entry }
     {
         Alike { plan, tuple }
     }

@@ -50,7 +50,7 @@ impl<'a> Rows<'a> {
 
     /// What the rows are read off.
     pub(crate) fn into_parts(self) -> (&'a SelectPlan, &'a Tuples, Vec<CellColumn>, Vec<u32>)
-        ensures exact { self ≡ rows_at result.0.now result.1.now result.2.items result.3.items }
+        ensures exact { self.entry ≡ rows_at result.0.now result.1.now result.2.items result.3.items }
         ensures items { All (λ tuple. All (CanEvaluate tuple) result.0.now.items) result.1.now }
         ensures within { All (λ n. n < length result.1.now) result.3.items }
     {
