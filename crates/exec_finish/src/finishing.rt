@@ -15,7 +15,7 @@ use std::alloc::{AllocError, Global};
 
 /// The answer to a question whose rows have their items and keys: DISTINCT, ORDER BY, LIMIT, and a line for each row left.
 pub fn finish<'a>(alloc: Global, plan: &SelectPlan, rows: Rows<'a>) -> Result<Bytes, AllocError>
-    ensures ok { IfOk result (λ text. text ≡ finished plan.now.distinct (map (λ key. key.descending) plan.now.keys) plan.now.limit plan.now.star rows) }
+    ensures ok { IfOk result (λ text. text ≡ finished plan.now.distinct (map (λ key. key.descending) plan.now.keys) plan.now.limit plan.now.star rows.entry) }
 {
     let (by, tuples, columns, numbers) = rows.into_parts();
     let numbers = chosen(alloc, plan.distinct, by, tuples, numbers)?;

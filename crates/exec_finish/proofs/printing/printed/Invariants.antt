@@ -1,7 +1,8 @@
-use Rattle.std.proofs.Common.{◌≡◌, flat_map, map, take}
+use Rattle.std.proofs.Common.{◌≡◌, List, flat_map, take}
+use Rattle.row_columns.specs.Column.{Values}
 use Rattle.exec_finish.specs.Answer.{row_line}
-use Rattle.exec_finish.specs.Plain.{row_by}
+use Rattle.exec_finish.specs.Numbered.{rows_at}
 use Rattle.exec_finish.proofs.printing.printed.Given as goal
 
-abbrev pub invariant-loop-place : goal.invariant-loop-place
-invariant-loop-place l = l.text.items ≡ flat_map (row_line l.plan.star) (map (row_by l.plan) (take l.place l.tuples))
+abbrev pub invariant-loop-number : goal.invariant-loop-number
+invariant-loop-number l = (columns : List Values) → l.text.items ≡ flat_map (row_line l.star) (rows_at l.plan l.tuples columns (take l.number-index l.numbers))
