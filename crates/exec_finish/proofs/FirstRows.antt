@@ -1,10 +1,10 @@
 -- The first rows in order, found from the last row to the first.
-use Rattle.std.proofs.Common.{◌≡◌, ◌∙◌, ℕ, zero, suc, ◌≤◌, List, [], ◌∷◌, ◌++◌, Bool, true, false, cond, map, take, length, is_lt, true≢false, refl, sym, ap, subst, arith}
+use Rattle.std.proofs.Common.{◌≡◌, ◌∙◌, ℕ, zero, suc, ◌+◌, ◌-◌, ◌<◌, ◌≤◌, drop, get_or,  List, [], ◌∷◌, ◌++◌, Bool, true, false, cond, map, take, length, is_lt, true≢false, refl, sym, ap, subst, arith}
 use Rattle.std.specs.Prelude.{insert}
 use Rattle.std.specs.List.{prefix_len}
 use Rattle.std.specs.List.{AllByRecursion as EachIs}
 use Rattle.std.proofs.lemmas.Bool.{cond-true}
-use Rattle.std.proofs.lemmas.List.{take-append-le, take-map, map-append, length-map}
+use Rattle.std.proofs.lemmas.List.{drop_more, take-append-le, take-map, map-append, length-map}
 use Rattle.indexmap.proofs.SetLemmas.{map-insert}
 use Rattle.row_columns.specs.Contents.{Output}
 use Rattle.row_columns.specs.Column.{Values}
@@ -28,7 +28,7 @@ take_one_more {A} (suc k) x xs = ap (λ (rest : List A). x ∷ rest) (take_less 
 
 front-map : {A B : Type 0} (f : A → B) (p : B → Bool) (q : A → Bool) → ((a : A) → p (f a) ≡ q a) → (xs : List A) → prefix_len p (map f xs) ≡ prefix_len q xs
 front-map f p q same [] = refl
-front-map f p q same (x ∷ xs) = λ i. cond (same x i) (suc (front-map f p q same xs i)) 0
+front-map f p q same (x ∷ xs) = λ i. cond (same x i) (1 + front-map f p q same xs i) 0
 
 EachIs-last : {A : Type 0} (P : A → Type 0) (front : List A) (last : A) → EachIs P (front ++ last ∷ []) → P last
 EachIs-last P [] last h = h.0
@@ -39,16 +39,26 @@ EachIs-take P zero xs h = tt
 EachIs-take P (suc k) [] h = tt
 EachIs-take P (suc k) (x ∷ xs) h = (h.0, EachIs-take P k xs h.1)
 
+-- where none may be kept none is
+pub none_kept : {A : Type 0} (limit : ℕ) (kept xs ys : List A) → limit ≡ 0 → kept ≡ take limit xs → kept ≡ take limit ys
+none_kept limit kept xs ys z e = e ∙ ap (λ l. take l xs) z ∙ sym (ap (λ l. take l ys) z)
+
+-- from one place earlier on
+pub drop_back : (ns : List ℕ) (left : ℕ) → 0 < left → left ≤ length ns → drop (left - 1) ns ≡ get_or ns (left - 1) 0 ∷ drop left ns
+drop_back ns left some le =
+    let next : (left - 1) + 1 ≡ left = omega arith in
+    drop_more ns (left - 1) 0 (omega arith) ∙ ap (λ n. get_or ns (left - 1) 0 ∷ drop n ns) next
+
 module _ (descending : List Bool) where
   -- a row put among the first rows
   first_put_in : (k : ℕ) (r : Output) (ss : List Output) → take k (put_in descending r (take k ss)) ≡ take k (put_in descending r ss)
   first_put_in zero r ss = refl
   first_put_in (suc k) r [] = refl
-  first_put_in (suc k) r (s ∷ ss) = by (before descending s r)
+  first_put_in (suc k) r (s ∷ ss) = by (first_put_in k r ss) (before descending s r)
     where
-      by : (b : Bool) → take (suc k) (cond b (s ∷ put_in descending r (take k ss)) (r ∷ s ∷ take k ss)) ≡ take (suc k) (cond b (s ∷ put_in descending r ss) (r ∷ s ∷ ss))
-      by true = ap (λ (rest : List Output). s ∷ rest) (first_put_in k r ss)
-      by false = ap (λ (rest : List Output). r ∷ rest) (take_one_more k s ss)
+      by : take k (put_in descending r (take k ss)) ≡ take k (put_in descending r ss) → (b : Bool) → take (suc k) (cond b (s ∷ put_in descending r (take k ss)) (r ∷ s ∷ take k ss)) ≡ take (suc k) (cond b (s ∷ put_in descending r ss) (r ∷ s ∷ ss))
+      by more true = ap (λ (rest : List Output). s ∷ rest) more
+      by more false = ap (λ (rest : List Output). r ∷ rest) (take_one_more k s ss)
 
   rises_take : (k : ℕ) (rs : List Output) → Rises descending rs → Rises descending (take k rs)
   unfolding Rises
@@ -72,11 +82,17 @@ module _ (descending : List Bool) where
   -- where a row is put
   put_at : (r : Output) (ss : List Output) → put_in descending r ss ≡ insert ss (prefix_len (λ s. before descending s r) ss) r
   put_at r [] = refl
-  put_at r (s ∷ ss) = by (before descending s r)
+  put_at r (s ∷ ss) = by (put_at r ss) (before descending s r)
     where
-      by : (b : Bool) → cond b (s ∷ put_in descending r ss) (r ∷ s ∷ ss) ≡ insert (s ∷ ss) (cond b (suc (prefix_len (λ t. before descending t r) ss)) 0) r
-      by true = ap (λ (rest : List Output). s ∷ rest) (put_at r ss)
-      by false = refl
+      n : ℕ
+      n = prefix_len (λ t. before descending t r) ss
+
+      one : suc n ≡ 1 + n
+      one = omega arith
+
+      by : put_in descending r ss ≡ insert ss n r → (b : Bool) → cond b (s ∷ put_in descending r ss) (r ∷ s ∷ ss) ≡ insert (s ∷ ss) (cond b (1 + n) 0) r
+      by more true = ap (λ (rest : List Output). s ∷ rest) more ∙ ap (λ m. insert (s ∷ ss) m r) one
+      by more false = refl
 
   module _ (columns : List Values) (row : ℕ → Output) (keyed : HaveKeys columns row) where
     same_order : (a b : ℕ) → row_order descending (row a) (row b) ≡ number_order descending columns a b

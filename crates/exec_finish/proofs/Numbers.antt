@@ -1,5 +1,5 @@
 -- Rows that are told by numbers: what becomes of the numbers becomes of the rows.
-use Rattle.std.proofs.Common.{◌≡◌, ◌∙◌, ◌⊎◌, inl, inr, ℕ, zero, suc, ◌+◌, ◌<◌, List, [], ◌∷◌, ◌++◌, Bool, true, false, cond, not, ◌&&◌, ◌||◌, map, filter, length, get_or, Option, Some, None, option_map, option_and_then, slice_get, refl, sym, ap, subst, true≢false, arith, zero-add, Bor, Ordering, is_lt, IsSortedBy}
+use Rattle.std.proofs.Common.{◌≡◌, ◌∙◌, ◌⊎◌, inl, inr, ℕ, zero, suc, ◌+◌, ◌<◌, List, [], ◌∷◌, ◌++◌, Bool, true, false, cond, not, take, ◌&&◌, ◌||◌, map, filter, length, get_or, Option, Some, None, option_map, option_and_then, slice_get, refl, sym, ap, subst, true≢false, arith, zero-add, Bor, Ordering, is_lt, IsSortedBy}
 use Rattle.std.specs.Fn.{Called, ComparesAs}
 use denote.Param.Members.{Mut}
 use Rattle.std.specs.Cmp.{IsStrictWeakOrder}
@@ -8,7 +8,8 @@ use Rattle.std.specs.List.Sorted.{ties, IsStableBy}
 use Rattle.std.proofs.lemmas.Fn.{always_returns_same}
 use Rattle.std.specs.Prelude.{All}
 use Rattle.std.proofs.lemmas.List.FromFn.{map-range_with_len_more, get_or-range_with_len, length-range_with_len}
-use Rattle.std.proofs.lemmas.List.{get_or-map, length-map, map-append}
+use Rattle.std.proofs.lemmas.List.{get_or-map, length-map, map-append, take_more}
+use Rattle.std.proofs.lemmas.List.Sums.{fold-append}
 use Rattle.std.proofs.lemmas.List.Elements.{filter_agree}
 use Rattle.std.proofs.lemmas.List.Sorted.{ranks_by}
 use Rattle.std.proofs.lemmas.Option.{slice_get-map, get_or_from_slice_get}
@@ -105,6 +106,30 @@ module _ (row : ℕ → Output) where
 
   pub numbers_distinct : (ns : List ℕ) → map row (insert_all are_alike [] ns) ≡ distinct (map row ns)
   numbers_distinct ns = all_put [] ns ∙ insert_all-distinct (map row ns)
+
+  -- a row that is put to those that are kept, where it is new and where it is not
+  pub put_so : (seen : List Output) (kept : List ℕ) (n : ℕ) (r : Output) → r ≡ row n → seen ≡ map row kept → (after : List Output) → after ≡ insert_key is_alike seen r → after ≡ map row (insert_key are_alike kept n)
+  put_so seen kept n r e s after put = put ∙ (λ i. insert_key is_alike (s i) (e i)) ∙ sym (key_put kept n)
+
+  found : (seen : List Output) (kept : List ℕ) (n : ℕ) (r : Output) → r ≡ row n → seen ≡ map row kept → list_any (are_alike n) kept ≡ list_any (is_alike r) seen
+  found seen kept n r e s = any_map (is_alike (row n)) row kept ∙ (λ i. list_any (is_alike (sym e i)) (sym s i))
+
+  by_found : (kept : List ℕ) (n : ℕ) (b c : Bool) → not b ≡ c → cond b kept (kept ++ n ∷ []) ≡ cond c (kept ++ n ∷ []) kept
+  by_found kept n true c e = ap (λ d. cond d (kept ++ n ∷ []) kept) e
+  by_found kept n false c e = ap (λ d. cond d (kept ++ n ∷ []) kept) e
+
+  pub put_new : (seen : List Output) (kept : List ℕ) (n : ℕ) (r : Output) → r ≡ row n → seen ≡ map row kept → not (list_any (is_alike r) seen) ≡ true → insert_key are_alike kept n ≡ kept ++ n ∷ []
+  put_new seen kept n r e s new = by_found kept n (list_any (are_alike n) kept) true (ap not (found seen kept n r e s) ∙ new)
+
+  pub put_old : (seen : List Output) (kept : List ℕ) (n : ℕ) (r : Output) → r ≡ row n → seen ≡ map row kept → not (list_any (is_alike r) seen) ≡ false → insert_key are_alike kept n ≡ kept
+  put_old seen kept n r e s old = by_found kept n (list_any (are_alike n) kept) false (ap not (found seen kept n r e s) ∙ old)
+
+  -- one number more is put
+  pub all_put_more : (ns : List ℕ) (i : ℕ) (kept : List ℕ) → i < length ns → kept ≡ insert_all are_alike [] (take i ns) → insert_all are_alike [] (take (i + 1) ns) ≡ insert_key are_alike kept (get_or ns i 0)
+  all_put_more ns i kept lt e =
+      ap (insert_all are_alike []) (take_more ns i 0 lt)
+      ∙ fold-append (insert_key are_alike) [] (take i ns) (get_or ns i 0 ∷ [])
+      ∙ ap (λ ks. insert_key are_alike ks (get_or ns i 0)) (sym e)
 
 -- ---- numbers in the order of their rows
 

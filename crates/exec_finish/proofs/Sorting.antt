@@ -41,7 +41,7 @@ module _ (descending : List Bool) where
   -- ---- rising lists
 
   -- no later row comes before an earlier one
-  pub Rises : List Output → Type 0
+  unfoldable pub Rises : List Output → Type 0
   Rises [] = Unit {0}
   Rises (r ∷ rs) = EachIs (λ s. before s r ≡ false) rs × Rises rs
 
