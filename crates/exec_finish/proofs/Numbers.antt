@@ -23,7 +23,7 @@ use Rattle.sql_eval.specs.Resolved.{value_over}
 use Rattle.exec_finish.specs.Distinct.{is_alike, distinct}
 use Rattle.exec_finish.specs.Keyed.{HaveKeys, number_order}
 use Rattle.exec_finish.specs.Numbered.{row_at, rows_at}
-use Rattle.exec_finish.specs.Order.{key_order, row_order, ordered}
+use Rattle.exec_finish.specs.Order.{key_order, row_order, put_in, ordered}
 use Rattle.exec_finish.specs.Plain.{document_of, row_by}
 use Rattle.exec_finish.proofs.Firsts.{insert_all-distinct}
 use Rattle.exec_finish.proofs.Sorting.{before, IsTotalOrder-row_order, only_ordered}
@@ -132,6 +132,19 @@ module _ (row : ℕ → Output) where
       ∙ ap (λ ks. insert_key are_alike ks (get_or ns i 0)) (sym e)
 
 -- ---- numbers in the order of their rows
+
+put_first : (r : Output) (rows : List Output) → put_in [] r rows ≡ r ∷ rows
+put_first r [] = refl
+put_first r (s ∷ ss) = refl
+
+-- no keys leave every row where it is
+unordered : (rows : List Output) → ordered [] rows ≡ rows
+unordered [] = refl
+unordered (r ∷ rs) = ap (put_in [] r) (unordered rs) ∙ put_first r rs
+
+pub without_keys : (keys : List KeyPlan) (rows : List Output) → length keys < 1 → rows ≡ ordered (map (λ (key : KeyPlan). key.descending) keys) rows
+without_keys [] rows few = sym (unordered rows)
+without_keys (key ∷ keys) rows few = absurd (omega arith)
 
 agree : (a b : Bool) → (a ≡ false → b ≡ false) → (b ≡ false → a ≡ false) → a ≡ b
 agree true true f g = refl

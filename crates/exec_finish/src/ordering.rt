@@ -27,19 +27,35 @@ pub(crate) fn in_order(
     ensures ok { (row : ℕ → Output) → HaveKeys columns.now row → IfOk result (λ sorted. map row sorted.items ≡ limited limit (ordered (map (λ key. key.descending) keys.now) (map row numbers.items))) }
     ensures within { (most : ℕ) → All (λ n. n < most) numbers.items → IfOk result (λ sorted. All (λ n. n < most) sorted.items) }
 {
-    match few(keys, limit) {
+    match keys {
+        [] => Ok(limited(limit, numbers)),
+        _ => by_keys(alloc, keys, limit, columns, numbers),
+    }
+}
+
+// The same for any keys.
+fn by_keys(
+    alloc: Global,
+    keys: &[KeyPlan],
+    limit: Option<u64>,
+    columns: &[CellColumn],
+    numbers: Vec<u32>,
+) -> Result<Vec<u32>, AllocError>
+    ensures ok { (row : ℕ → Output) → HaveKeys columns.now row → IfOk result (λ sorted. map row sorted.items ≡ limited limit (ordered (map (λ key. key.descending) keys.now) (map row numbers.items))) }
+    ensures within { (most : ℕ) → All (λ n. n < most) numbers.items → IfOk result (λ sorted. All (λ n. n < most) sorted.items) }
+{
+    match few(limit) {
         Some(limit) => first_in_order(alloc, keys, columns, &numbers, limit as usize),
         None => Ok(limited(limit, sorted(keys, columns, numbers)?)),
     }
 }
 
-// The limit where it is worth while to keep no more rows than that. Rows without keys are in order.
-fn few(keys: &[KeyPlan], limit: Option<u64>) -> Option<u64>
+// The limit where it is worth while to keep no more rows than that.
+fn few(limit: Option<u64>) -> Option<u64>
     ensures exact { IfSome result (λ few. limit ≡ Some few) }
 {
-    match (keys, limit) {
-        ([], _) => None,
-        (_, Some(limit)) if limit <= FEW => Some(limit),
+    match limit {
+        Some(limit) if limit <= FEW => Some(limit),
         _ => None,
     }
 }
@@ -68,12 +84,7 @@ fn sorted(
 }
 
 /// How the rows of two numbers compare: by the first key in which they differ.
-pub(crate) fn compare(
-    keys: &[KeyPlan],
-    columns: &[CellColumn],
-    number: u32,
-    other: u32,
-) -> Ordering
+pub(crate) fn compare(keys: &[KeyPlan], columns: &[CellColumn], number: u32, other: u32) -> Ordering
     ensures exact { result ≡ number_order (map (λ key. key.descending) keys.now) columns.now number other }
 {
     for (place, key) in keys.iter().enumerate() {

@@ -30,10 +30,9 @@ loop-number-preserved c =
     let more = all_put_more row numbers i kept c.loop-number-test.true before.1 in
     let put = put_so row c.loop-number.seen.keys kept number c.new-row.result this before.0 c.insert.new.self.keys c.in_ok-insert.ensures.keys in
     elim c.if-branch.branch [
-      then-branch+in_ok-push w ↦
+      | then-branch+in_ok-push w ↦
           let now = ap (λ v. v.items) w.kept-is ∙ w.in_ok-push.ensures.items in
-          let next = now ∙ sym (put_new row c.loop-number.seen.keys kept number c.new-row.result this before.0 (sym c.in_ok-insert.ensures.added ∙ w.if-branch.true)) in
-          (
+          let next = now ∙ sym (put_new row c.loop-number.seen.keys kept number c.new-row.result this before.0 (sym c.in_ok-insert.ensures.added ∙ w.if-branch.true)) in (
             put ∙ ap (map row) (sym next),
             next ∙ sym more,
             subst (All (λ n. n < length tuples)) (sym now) (All-push (λ n. n < length tuples) kept number before.2 (slice_get_within tuples number c.get.result c.get.ensures.exact)),

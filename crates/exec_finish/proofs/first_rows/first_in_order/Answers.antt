@@ -8,8 +8,7 @@ loop-left-preserved c =
     let rows = c.args.rows.now in
     let left = c.loop-left.left in
     let before = c.loop-left.invariant in
-    let directions = map (λ key. key.descending) c.args.keys.now in
-    (
+    let directions = map (λ key. key.descending) c.args.keys.now in (
       omega (arith, before.0),
       λ most h. c.in_ok-put.ensures.within most (before.1 most h) (h (left - 1) 0 (omega (arith, before.0, c.loop-left-test.true))),
       λ row keyed.

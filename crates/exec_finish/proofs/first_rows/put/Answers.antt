@@ -12,7 +12,7 @@ returns-then-limit-eq0-clause-ok c row rows keyed e =
     let columns = c.args.columns.now in
     let numbers = c.args.numbers.now.items in
     elim c.then-limit-eq0.branch [
-      then-limit-eq0-via-then-limit-eq0 w ↦ none_kept c.args.limit (map row numbers) (ordered directions rows) (put_in directions (row c.args.number) (ordered directions rows)) w.if-limit-eq0.true e
+      | then-limit-eq0-via-then-limit-eq0 w ↦ none_kept c.args.limit (map row numbers) (ordered directions rows) (put_in directions (row c.args.number) (ordered directions rows)) w.if-limit-eq0.true e
       | then-limit-eq0-via-else-limit-eq0+then-is_beyond w ↦
           put_beyond directions columns row keyed c.args.limit c.args.number numbers rows (subst (IsBeyond directions columns c.args.limit c.args.number) w.deref.ensures.value (w.is_beyond.ensures.exact w.if-is_beyond.true)) e
     ]
