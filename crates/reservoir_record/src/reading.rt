@@ -1,4 +1,4 @@
-ghost use Rattle.std.specs.Prelude.{ℕ, ◌≡◌, ◌+◌, ◌-◌, ◌*◌, ◌≤◌, ◌<◌, ◌^◌, List, Some, None, length, slice_get, option_copied, option_map, IfOk, IfErr};
+ghost use Rattle.std.specs.Prelude.{ℕ, ◌≡◌, ◌+◌, ◌-◌, ◌*◌, ◌≤◌, ◌<◌, ◌^◌, List, Some, None, true, length, slice_get, option_copied, option_map, IfOk, IfErr};
 ghost use Rattle.reservoir_record.specs.Spelling.{Spells, IsRecord};
 ghost use Rattle.reservoir_record.specs.Words.{IsWholeTable, value_at};
 ghost use Rattle.reservoir_record.specs.Finding.{value_of, StandsAt, FitsAt};
@@ -8,6 +8,7 @@ use crate::finding::place;
 use crate::numbers::Numbers;
 use crate::steps::Steps;
 use crate::word::word;
+use std::cmp::Ordering;
 use std::sync::ledger::{Blank, Ledger};
 
 /// How many fields the record has.
@@ -60,12 +61,32 @@ pub fn find_near<'a, L: Ledger>(
     let count = count(bytes) as usize;
     let numbers = Numbers::new(bytes);
     let guess = guess as usize;
-    if guess < count && numbers.compare(guess, id, steps).is_eq() {
+    if stands_at(&numbers, count, guess, id, steps) {
         return Some((guess as u32, value(bytes, count, guess)));
     }
     match place(&numbers, count, id, steps) {
         Ok(place) => Some((place as u32, value(bytes, count, place))),
         Err(_) => None,
+    }
+}
+
+// Whether the number stands at a place.
+fn stands_at<L: Ledger>(
+    numbers: &Numbers,
+    count: usize,
+    place: usize,
+    id: u32,
+    steps: &mut Steps<L>,
+) -> bool
+    requires { 8 + 8 * count ≤ length numbers.now.bytes.now }
+    ensures exact { result ≡ true → StandsAt numbers.now.bytes.now count id place }
+{
+    if place >= count {
+        return false;
+    }
+    match numbers.compare(place, id, steps) {
+        Ordering::Equal => true,
+        _ => false,
     }
 }
 
