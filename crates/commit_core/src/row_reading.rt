@@ -78,19 +78,21 @@ fn column_along(
 {
     let mut column = CellColumn::new(alloc);
     column.reserve(records.len())?;
+    let mut guess = 0;
     for stored in records {
-        column.push(cell(path, stored))?;
+        column.push(cell(path, stored, &mut guess))?;
     }
     Ok(column)
 }
 
-fn cell(path: ColumnPath, stored: &Record) -> Option<ValueRef<'_>>
+// The value along a path. Its field is looked for first where that of the record before stood.
+fn cell<'a>(path: ColumnPath, stored: &'a Record, guess: &mut u32) -> Option<ValueRef<'a>>
     requires { CanBeRead path.kinds stored.now }
     ensures exact { option_map owned result ≡ cell_along stored.now path }
 {
     match path.want {
-        Some(kind) => value_of_kind(kind, path.kinds.of(kind), stored),
-        None => value_under(&path.kinds, stored),
+        Some(kind) => value_of_kind(kind, path.kinds.of(kind), stored, guess),
+        None => value_under(&path.kinds, stored, guess),
     }
 }
 

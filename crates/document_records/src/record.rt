@@ -5,7 +5,7 @@ ghost use Rattle.reservoir_record.specs.Finding.{value_of};
 ghost use Rattle.reservoir_record.specs.declared.fields.Field.{Field};
 
 use reservoir_record::{
-    Steps, a_spelling_has_its_fields_in_place, build_from_parts, count, field, find, put, remove,
+    Steps, a_spelling_has_its_fields_in_place, build_from_parts, count, field, find, find_near, put, remove,
 };
 use std::alloc::{AllocError, Global};
 use std::marker::{Brand, Model};
@@ -51,6 +51,13 @@ impl Record {
         ensures exact { option_copied result ≡ value_of id self.now }
     {
         find_with::<Brand>(&self.bytes, id, Blank::new(1))
+    }
+
+    /// The value of the field with a number, and the place of the field. It is looked for at a guessed place first.
+    pub fn find_near(&self, id: u32, guess: u32) -> Option<(u32, &[u8])>
+        ensures exact { option_map (λ found. found.1.now) result ≡ value_of id self.now }
+    {
+        find_near_with::<Brand>(&self.bytes, id, guess, Blank::new(1))
     }
 
     /// How many fields there are.
@@ -110,4 +117,20 @@ fn find_with<'a, L: Ledger>(bytes: &'a [u8], id: u32, blank: Blank) -> Option<&'
 {
     let mut steps = Steps::<L>::new(blank);
     find(bytes, id, &mut steps)
+}
+
+fn find_near_with<'a, L: Ledger>(
+    bytes: &'a [u8],
+    id: u32,
+    guess: u32,
+    blank: Blank,
+) -> Option<(u32, &'a [u8])>
+    requires name { blank.name ≡ L.name }
+    requires parts { blank.parts ≡ L.parts }
+    requires some { blank.parts ≡ 1 }
+    requires record_bytes { IsRecord bytes.now }
+    ensures exact { (fields : List Field) → Spells fields bytes.now → option_map (λ found. found.1.now) result ≡ value_of id fields }
+{
+    let mut steps = Steps::<L>::new(blank);
+    find_near(bytes, id, guess, &mut steps)
 }

@@ -82,14 +82,12 @@ fn read_text(alloc: Global, bytes: &[u8]) -> Result<Utf, AllocError>
     Utf::of(alloc, text_of(bytes))
 }
 
+// The text that bytes are. They are known to be one, so they are not looked at.
 fn text_of(bytes: &[u8]) -> &str
     requires { IsTrue (is_utf8 bytes.now) }
     ensures exact { result.now ≡ bytes.now }
 {
-    match str::from_utf8(bytes) {
-        Ok(text) => text,
-        Err(_) => unreachable!(),
-    }
+    unsafe { str::from_utf8_unchecked(bytes) }
 }
 
 /// The value of a kind that bytes stand for, lent from them.

@@ -1,7 +1,10 @@
 -- The keys of two rows, compared one place after another.
-use Rattle.std.proofs.Common.{◌≡◌, ℕ, zero, suc, ◌+◌, ◌<◌, List, [], ◌∷◌, Bool, true, false, true≢false, Ordering, Less, Equal, Greater, cond, map, drop, length, get_or, Option, option_and_then, slice_get, refl, sym, ap, ◌∙◌, add-one}
+use Rattle.std.proofs.Common.{◌≡◌, ℕ, zero, suc, ◌+◌, ◌<◌, List, [], ◌∷◌, Bool, true, false, true≢false, Ordering, Less, Equal, Greater, cond, map, drop, length, get_or, Option, Some, None, option_map, option_and_then, slice_get, refl, sym, ap, ◌∙◌, add-one}
 use Rattle.std.specs.Ordering.{ordering_reverse, ordering_then, is_ne}
 use Rattle.std.proofs.lemmas.List.{drop_more}
+use Rattle.std.proofs.lemmas.Option.{slice_get-map}
+use Rattle.row_columns.specs.Column.{Values}
+use Rattle.row_columns.specs.Placed.{value_in}
 use Rattle.doc_values.specs.declared.value.Value.{Value}
 use Rattle.doc_values.specs.Order.{total_order}
 use Rattle.sql_eval.specs.declared.key_plan.KeyPlan.{KeyPlan}
@@ -10,6 +13,14 @@ use Rattle.exec_finish.specs.Order.{first_key, other_keys, key_order}
 -- the key at a place
 abbrev pub key_at : List (Option Value) → ℕ → Option Value
 key_at keys place = option_and_then (λ key. key) (slice_get keys place)
+
+-- the key that columns have for a number
+pub key_in : (number : ℕ) (columns : List Values) (place : ℕ) → option_and_then (value_in number) (slice_get columns place) ≡ key_at (map (value_in number) columns) place
+key_in number columns place = sym (joined (slice_get columns place)) ∙ sym (ap (option_and_then (λ key. key)) (slice_get-map (value_in number) columns place))
+  where
+    joined : (o : Option Values) → option_and_then (λ key. key) (option_map (value_in number) o) ≡ option_and_then (value_in number) o
+    joined None = refl
+    joined (Some column) = refl
 
 -- which keys are descending
 abbrev pub directions : List KeyPlan → List Bool

@@ -3,5 +3,6 @@ pub mod Firsts
 pub mod Sorting
 pub mod Comparing
 pub mod WholeLines
-pub mod AsTheyCome
+mod Numbers
+mod FirstRows
 mod Unescaped

@@ -6,9 +6,6 @@ use Rattle.std.specs.List.Sorted.{ties, IsStableBy}
 use Rattle.std.specs.Cmp.{IsTotalOrder, IsStrictWeakOrder}
 use Rattle.std.proofs.lemmas.Cmp.{on_total, then_total, back_total, tied_itself}
 use Rattle.std.proofs.lemmas.List.Elements.{recursion_from_All}
-use Rattle.std.proofs.lemmas.Fn.{always_returns_same}
-use Rattle.std.specs.Fn.{Called, ComparesAs}
-use denote.Param.Members.{Mut}
 use Rattle.std.proofs.lemmas.List.Sorted.{ranks_by, sorted_far, IsPermutation-refl, IsPermutation-sym, IsPermutation-cons, IsPermutation-trans, IsPermutation-middle}
 use Rattle.doc_values.specs.Order.{total_order}
 use Rattle.doc_values.proofs.Ordered.{IsTotalOrder-total_order}
@@ -44,7 +41,7 @@ module _ (descending : List Bool) where
   -- ---- rising lists
 
   -- no later row comes before an earlier one
-  Rises : List Output → Type 0
+  unfoldable pub Rises : List Output → Type 0
   Rises [] = Unit {0}
   Rises (r ∷ rs) = EachIs (λ s. before s r ≡ false) rs × Rises rs
 
@@ -89,7 +86,7 @@ module _ (descending : List Bool) where
       by_order more true e = (EachIs-put_in (λ t. before t s ≡ false) r ss (IsStrictWeakOrder-before.one_way s r e) h.0, more)
       by_order more false e = ((e, EachIs-weaker (λ t. before t s ≡ false) (λ t. before t r ≡ false) (λ t p. IsStrictWeakOrder-before.chain t s r p e) ss h.0), h)
 
-  rises_ordered : (rs : List Output) → Rises (ordered descending rs)
+  pub rises_ordered : (rs : List Output) → Rises (ordered descending rs)
   unfolding Rises
   rises_ordered [] = tt
   rises_ordered (r ∷ rs) = rises_put_in r (ordered descending rs) (rises_ordered rs)
@@ -217,12 +214,3 @@ module _ (descending : List Bool) where
 
   pub only_ordered : (rs others : List Output) → IsSortedBy before others → IsStableBy before rs others → others ≡ ordered descending rs
   only_ordered rs others up stable = one_alone others (ordered descending rs) (rises_from_sorted others up) (rises_ordered rs) (λ x. stable x ∙ sym (stable_ordered rs x))
-
-  -- what std's stable sort leaves, where each call of its closure compares the keys
-  pub ordered_from_sort_by : {F : Type 0} {g : Mut F (Bor Output × (Bor Output × Unit {0})) Ordering} {f : F} (rs others : List Output)
-      → ((lt : Output → Output → Bool) → IsStrictWeakOrder lt → ComparesAs g lt f → IsSortedBy lt others)
-      → ((lt : Output → Output → Bool) → IsStrictWeakOrder lt → ComparesAs g lt f → IsStableBy lt rs others)
-      → ((a : Bor Output × (Bor Output × Unit {0})) (r : Ordering) (f' : F) → Called g f a r f' → (r ≡ row_order descending a.0.now a.1.0.now) × (f' ≡ f)) → others ≡ ordered descending rs
-  ordered_from_sort_by {g = g} {f = f} rs others up stable h =
-      let compares = always_returns_same g (λ a r. is_lt r ≡ before a.0.now a.1.0.now) f (λ a r f' k. (ap is_lt (h a r f' k).0, (h a r f' k).1)) in
-      only_ordered rs others (up before IsStrictWeakOrder-before compares) (stable before IsStrictWeakOrder-before compares)

@@ -1,7 +1,9 @@
 pub mod Plain
+pub mod Numbered
 pub mod Escapes
 pub mod Distinct
 pub mod Order
+pub mod Keyed
 pub mod Answer
 pub mod Lines
 pub mod Fed

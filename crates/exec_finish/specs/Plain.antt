@@ -1,8 +1,7 @@
 -- The row that a tuple gives where rows are not grouped.
-use Rattle.std.specs.Prelude.{ℕ, Bool, not, false, List, [], ◌∷◌, map, min, Option, Some, None, option_and_then, if◌then◌else◌}
+use Rattle.std.specs.Prelude.{ℕ, Bool, List, map, min, Option, Some, None, option_and_then, if◌then◌else◌}
 use Rattle.doc_values.specs.Doc.{Fields}
 use Rattle.sql_eval.specs.declared.expr.Expr.{Expr}
-use Rattle.sql_eval.specs.declared.key_plan.KeyPlan.{KeyPlan}
 use Rattle.sql_eval.specs.declared.select_plan.SelectPlan.{SelectPlan}
 use Rattle.sql_eval.specs.Resolved.{value_over}
 use Rattle.row_columns.specs.Contents.{Cells, Output}
@@ -23,11 +22,6 @@ plain_row star items keys tuple = record {
 -- The row of a tuple by a plan.
 abbrev pub row_by : SelectPlan → List (Option Cells) → Output
 row_by p = plain_row p.star p.items (map (λ k. k.expr) p.keys)
-
--- Rows are neither told apart nor put in order.
-abbrev pub stand_as_they_come : Bool → List KeyPlan → Bool
-stand_as_they_come is_distinct [] = not is_distinct
-stand_as_they_come is_distinct (k ∷ ks) = false
 
 -- How many of so many rows a limit admits.
 abbrev pub admitted : Option ℕ → ℕ → ℕ

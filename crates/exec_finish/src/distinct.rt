@@ -1,37 +1,33 @@
-ghost use Rattle.std.specs.Prelude.{◌≡◌, IfOk};
-ghost use Rattle.exec_finish.specs.Distinct.{distinct, is_alike};
-ghost use Rattle.indexmap.specs.IndexSet.{insert_all};
-ghost use Rattle.std.specs.Prelude.{[]};
+ghost use Rattle.std.specs.Prelude.{◌≡◌, ◌<◌, IfOk, All, List, length};
+ghost use Rattle.row_columns.specs.Column.{Values};
+ghost use Rattle.sql_eval.specs.Widths.{CanEvaluate};
+ghost use Rattle.exec_finish.specs.Distinct.{distinct};
+ghost use Rattle.exec_finish.specs.Numbered.{rows_at};
 
 use crate::alike::Alike;
 use indexmap::IndexSet;
-use sql_eval::OutRow;
+use sql_eval::{SelectPlan, Tuples};
 use std::alloc::{AllocError, Global};
 
-/// The first of rows that are alike. None is copied.
-pub(crate) fn distinct(alloc: Global, rows: Vec<OutRow>) -> Result<Vec<OutRow>, AllocError>
-    ensures ok { IfOk result (λ kept. kept.items ≡ distinct rows.items) }
+/// The numbers of the first of rows that are alike. No item is copied.
+pub(crate) fn distinct<'a>(
+    alloc: Global,
+    plan: &'a SelectPlan,
+    tuples: &'a Tuples,
+    numbers: &[u32],
+) -> Result<Vec<u32>, AllocError>
+    requires items { All (λ tuple. All (CanEvaluate tuple) plan.now.items) tuples.now }
+    requires within { All (λ n. n < length tuples.now) numbers.now }
+    ensures ok { (columns : List Values) → IfOk result (λ kept. rows_at plan.now tuples.now columns kept.items ≡ distinct (rows_at plan.now tuples.now columns numbers.now)) }
+    ensures within { IfOk result (λ kept. All (λ n. n < length tuples.now) kept.items) }
 {
-    taken_out(alloc, told_apart(alloc, rows)?)
-}
-
-// The rows as a set, which keeps the first of keys that are equal, in the order in which they came.
-fn told_apart(alloc: Global, rows: Vec<OutRow>) -> Result<IndexSet<Alike>, AllocError>
-    ensures ok { IfOk result (λ set. set.keys ≡ insert_all is_alike [] rows.items) }
-{
-    let mut set = IndexSet::new(alloc);
-    for row in rows {
-        set.insert(Alike::new(row))?;
+    let mut seen = IndexSet::new(alloc);
+    let mut kept = Vec::new(alloc);
+    for number in numbers {
+        let row = Alike::new(plan, tuples.get(*number as usize));
+        if seen.insert(row)? {
+            kept.push(*number)?;
+        }
     }
-    Ok(set)
-}
-
-fn taken_out(alloc: Global, set: IndexSet<Alike>) -> Result<Vec<OutRow>, AllocError>
-    ensures ok { IfOk result (λ rows. rows.items ≡ set.keys) }
-{
-    let mut rows = Vec::with_capacity(alloc, set.len())?;
-    for alike in set {
-        rows.push(alike.into_row())?;
-    }
-    Ok(rows)
+    Ok(kept)
 }

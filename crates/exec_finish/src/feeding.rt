@@ -1,15 +1,20 @@
-ghost use Rattle.std.specs.Prelude.{◌≡◌, fold, flat_map, option_copied, unwrap_or, [], Some};
+ghost use Rattle.std.specs.Prelude.{◌≡◌, All, fold, flat_map, map, option_copied, option_map, unwrap_or, []};
+ghost use Rattle.row_columns.specs.Lent.{owned};
+ghost use Rattle.sql_eval.specs.Resolved.{value_over};
+ghost use Rattle.sql_eval.specs.Widths.{CanEvaluate};
 ghost use Rattle.exec_finish.specs.Fed.{value_fed, field_fed};
 
 use doc_values::{Doc, Value};
+use sql_eval::{Expr, Sides, ValueRef, value};
 use std::hash::{Hash, Hasher};
 
-/// Feeds items to a hasher.
-pub(crate) fn feed_items<H: Hasher>(items: &[Option<Value>], state: &mut H)
-    ensures exact { state.new ≡ fold H.write state.old (flat_map value_fed items.now) }
+/// Feeds the values of items over a tuple to a hasher.
+pub(crate) fn feed_items<'a, H: Hasher>(items: &'a [Expr], tuple: &Sides<'a>, state: &mut H)
+    requires { All (CanEvaluate tuple.now) items.now }
+    ensures exact { state.new ≡ fold H.write state.old (flat_map value_fed (map (value_over tuple.now) items.now)) }
 {
     for item in items {
-        feed_value(item.as_ref(), state);
+        feed_value(value(item, tuple), state);
     }
 }
 
@@ -35,18 +40,18 @@ fn feed_field<H: Hasher>(name: &str, value: &Value, state: &mut H)
     ensures exact { state.new ≡ fold H.write state.old (field_fed (name.now, value.now)) }
 {
     name.hash(state);
-    feed_value(Some(value), state);
+    feed_value(Some(ValueRef::of(value)), state);
 }
 
-fn feed_value<H: Hasher>(value: Option<&Value>, state: &mut H)
-    ensures exact { state.new ≡ fold H.write state.old (value_fed (option_copied value.entry)) }
+fn feed_value<H: Hasher>(value: Option<ValueRef<'_>>, state: &mut H)
+    ensures exact { state.new ≡ fold H.write state.old (value_fed (option_map owned value.entry)) }
 {
     match value {
         None => state.write_u8(0),
-        Some(Value::Bool(b)) => b.hash(state),
-        Some(Value::Int(number)) => number.hash(state),
-        Some(Value::Text(text)) => text.text().hash(state),
-        Some(Value::Array(text)) => text.text().hash(state),
-        Some(Value::Object) => state.write_u8(1),
+        Some(ValueRef::Bool(b)) => b.hash(state),
+        Some(ValueRef::Int(number)) => number.hash(state),
+        Some(ValueRef::Text(text)) => text.hash(state),
+        Some(ValueRef::Array(text)) => text.hash(state),
+        Some(ValueRef::Object) => state.write_u8(1),
     }
 }

@@ -1,38 +1,44 @@
-ghost use Rattle.std.specs.Prelude.{◌≡◌, IfOk, map, if◌then◌else◌};
-ghost use Rattle.exec_finish.specs.Answer.{limited, finished};
+ghost use Rattle.std.specs.Prelude.{◌≡◌, ◌<◌, IfOk, All, List, length, map, if◌then◌else◌};
+ghost use Rattle.row_columns.specs.Column.{Values};
+ghost use Rattle.sql_eval.specs.Widths.{CanEvaluate};
+ghost use Rattle.exec_finish.specs.Answer.{finished};
 ghost use Rattle.exec_finish.specs.Distinct.{distinct};
+ghost use Rattle.exec_finish.specs.Numbered.{rows_at};
 
-use crate::answer::answer;
 use crate::distinct::distinct;
-use crate::ordering::ordered;
+use crate::ordering::in_order;
+use crate::printing::printed;
+use crate::rows::Rows;
 use doc_values::Bytes;
-use sql_eval::{OutRow, Rows, SelectPlan};
+use sql_eval::{SelectPlan, Tuples};
 use std::alloc::{AllocError, Global};
 
 /// The answer to a question whose rows have their items and keys: DISTINCT, ORDER BY, LIMIT, and a line for each row left.
-pub fn finish(alloc: Global, plan: &SelectPlan, rows: Rows) -> Result<Bytes, AllocError>
-    ensures ok { IfOk result (λ text. text ≡ finished plan.now.distinct (map (λ key. key.descending) plan.now.keys) plan.now.limit plan.now.star rows) }
+pub fn finish<'a>(alloc: Global, plan: &SelectPlan, rows: Rows<'a>) -> Result<Bytes, AllocError>
+    ensures ok { IfOk result (λ text. text ≡ finished plan.now.distinct (map (λ key. key.descending) plan.now.keys) plan.now.limit plan.now.star rows.entry) }
 {
-    let rows = chosen(alloc, plan.distinct, rows.into_vec())?;
-    let rows = ordered(plan.keys.as_slice(), rows)?;
-    answer(alloc, plan.star, &limited(plan.limit, rows))
+    let (by, tuples, columns, numbers) = rows.into_parts();
+    let numbers = chosen(alloc, plan.distinct, by, tuples, numbers)?;
+    let numbers = in_order(alloc, plan.keys.as_slice(), plan.limit, &columns, numbers)?;
+    printed(alloc, plan.star, by, tuples, &numbers)
 }
 
-fn chosen(alloc: Global, is_distinct: bool, rows: Vec<OutRow>) -> Result<Vec<OutRow>, AllocError>
-    ensures ok { IfOk result (λ kept. kept.items ≡ (if is_distinct then distinct rows.items else rows.items)) }
+// The first of rows that are alike, if they are to be told apart.
+fn chosen<'a>(
+    alloc: Global,
+    is_distinct: bool,
+    plan: &'a SelectPlan,
+    tuples: &'a Tuples,
+    numbers: Vec<u32>,
+) -> Result<Vec<u32>, AllocError>
+    requires items { All (λ tuple. All (CanEvaluate tuple) plan.now.items) tuples.now }
+    requires within { All (λ n. n < length tuples.now) numbers.items }
+    ensures ok { (columns : List Values) → IfOk result (λ kept. rows_at plan.now tuples.now columns kept.items ≡ (if is_distinct then distinct (rows_at plan.now tuples.now columns numbers.items) else rows_at plan.now tuples.now columns numbers.items)) }
+    ensures within { IfOk result (λ kept. All (λ n. n < length tuples.now) kept.items) }
 {
     if is_distinct {
-        distinct(alloc, rows)
+        distinct(alloc, plan, tuples, &numbers)
     } else {
-        Ok(rows)
+        Ok(numbers)
     }
-}
-
-fn limited(limit: Option<u64>, mut rows: Vec<OutRow>) -> Vec<OutRow>
-    ensures exact { result.items ≡ limited limit rows.items }
-{
-    if let Some(limit) = limit {
-        rows.truncate(limit as usize);
-    }
-    rows
 }

@@ -6,18 +6,23 @@
 #![tactic(auto)]
 
 mod alike;
-mod answer;
 mod answering;
 mod distinct;
+mod document_text;
 mod feeding;
 mod finishing;
+mod first_rows;
 mod laws;
+mod lent_order;
 mod lent_text;
 mod likeness;
 mod ordering;
+mod printing;
+mod rows;
 mod values;
 
 pub use answering::plain_answer;
 pub use finishing::finish;
 pub use laws::{answers_are_lines, rows_alike_are_equal, sorting_is_stable};
+pub use rows::Rows;
 pub use values::plain_values;

@@ -1,75 +1,75 @@
-ghost use Rattle.std.specs.Prelude.{◌≡◌, IfOk, All, map, if◌then◌else◌, None};
+ghost use Rattle.std.specs.Prelude.{◌≡◌, ◌<◌, IfOk, All, map, option_copied, if◌then◌else◌, None};
+ghost use Rattle.std.specs.List.{range_with_len};
 ghost use Rattle.sql_eval.specs.Resolved.{value_over};
 ghost use Rattle.sql_eval.specs.Widths.{CanEvaluate};
 ghost use Rattle.exec_finish.specs.Plain.{plain_row, document_of};
 
-use doc_values::{Doc, Value};
-use sql_eval::{Expr, KeyPlan, OutRow, Rows, SelectPlan, Sides, Tuples, eval};
+use crate::rows::Rows;
+use doc_values::Doc;
+use sql_eval::{CellColumn, Expr, KeyPlan, SelectPlan, Sides, Tuples, value};
 use std::alloc::{AllocError, Global};
 
-/// The row of each tuple of a question whose rows are not grouped.
-pub fn plain_values(alloc: Global, plan: &SelectPlan, tuples: &Tuples) -> Result<Rows, AllocError>
+/// The row of each tuple of a question whose rows are not grouped. More than 2 ^ 32 - 1 rows are want of memory.
+pub fn plain_values<'a>(
+    alloc: Global,
+    plan: &'a SelectPlan,
+    tuples: &'a Tuples,
+) -> Result<Rows<'a>, AllocError>
     requires items { All (λ tuple. All (CanEvaluate tuple) plan.now.items) tuples.now }
     requires keys { All (λ tuple. All (λ key. CanEvaluate tuple key.expr) plan.now.keys) tuples.now }
     ensures ok { IfOk result (λ rows. rows ≡ map (plain_row plan.now.star plan.now.items (map (λ key. key.expr) plan.now.keys)) tuples.now) }
 {
-    let mut rows = Vec::with_capacity(alloc, tuples.len())?;
-    for place in 0..tuples.len() {
-        rows.push(row_of(alloc, plan, &tuples.get(place))?)?;
+    let columns = key_columns(alloc, plan.keys.as_slice(), tuples)?;
+    let numbers = all_numbers(alloc, tuples.len())?;
+    Ok(Rows::new(plan, tuples, columns, numbers))
+}
+
+// The numbers of so many tuples.
+fn all_numbers(alloc: Global, count: usize) -> Result<Vec<u32>, AllocError>
+    ensures ok { IfOk result (λ numbers. numbers.items ≡ range_with_len 0 count) }
+{
+    let Ok(count) = u32::try_from(count) else {
+        return Err(AllocError);
+    };
+    let mut numbers = Vec::with_capacity(alloc, count as usize)?;
+    for number in 0..count {
+        numbers.push(number)?;
     }
-    Ok(Rows::from_vec(rows))
+    Ok(numbers)
 }
 
-fn row_of<'a>(alloc: Global, plan: &'a SelectPlan, tuple: &Sides<'a>) -> Result<OutRow, AllocError>
-    requires items { All (CanEvaluate tuple.now) plan.now.items }
-    requires keys { All (λ key. CanEvaluate tuple.now key.expr) plan.now.keys }
-    ensures ok { IfOk result (λ row. row ≡ plain_row plan.now.star plan.now.items (map (λ key. key.expr) plan.now.keys) tuple.now) }
-{
-    let items = items_of(alloc, plan.items.as_slice(), tuple)?;
-    let doc = document_of(plan.star, tuple)?;
-    let keys = keys_of(alloc, plan.keys.as_slice(), tuple)?;
-    Ok(OutRow::new(items, doc, keys))
-}
-
-fn items_of<'a>(
+// The values of each key over tuples, a column each.
+fn key_columns(
     alloc: Global,
-    items: &'a [Expr],
-    tuple: &Sides<'a>,
-) -> Result<Vec<Option<Value>>, AllocError>
-    requires { All (CanEvaluate tuple.now) items.now }
-    ensures ok { IfOk result (λ values. values.items ≡ map (value_over tuple.now) items.now) }
+    keys: &[KeyPlan],
+    tuples: &Tuples,
+) -> Result<Vec<CellColumn>, AllocError>
+    requires { All (λ tuple. All (λ key. CanEvaluate tuple key.expr) keys.now) tuples.now }
+    ensures ok { IfOk result (λ columns. columns.items ≡ map (λ key. map (λ tuple. value_over tuple key.expr) tuples.now) keys.now) }
 {
-    let mut values = Vec::with_capacity(alloc, items.len())?;
-    for item in items {
-        values.push(eval(alloc, item, tuple)?)?;
-    }
-    Ok(values)
-}
-
-fn keys_of<'a>(
-    alloc: Global,
-    keys: &'a [KeyPlan],
-    tuple: &Sides<'a>,
-) -> Result<Vec<Option<Value>>, AllocError>
-    requires { All (λ key. CanEvaluate tuple.now key.expr) keys.now }
-    ensures ok { IfOk result (λ values. values.items ≡ map (value_over tuple.now) (map (λ key. key.expr) keys.now)) }
-{
-    let mut values = Vec::with_capacity(alloc, keys.len())?;
+    let mut columns = Vec::with_capacity(alloc, keys.len())?;
     for key in keys {
-        values.push(eval(alloc, &key.expr, tuple)?)?;
+        columns.push(column_over(alloc, &key.expr, tuples)?)?;
     }
-    Ok(values)
+    Ok(columns)
 }
 
-// The tuple's document where whole documents are asked for.
-fn document_of(star: bool, tuple: &Sides) -> Result<Option<Doc>, AllocError>
-    ensures ok { IfOk result (λ doc. doc ≡ (if star then document_of tuple.now else None)) }
+// The values of an expression over tuples.
+fn column_over(alloc: Global, expr: &Expr, tuples: &Tuples) -> Result<CellColumn, AllocError>
+    requires { All (λ tuple. CanEvaluate tuple expr.now) tuples.now }
+    ensures ok { IfOk result (λ column. column ≡ map (λ tuple. value_over tuple expr.now) tuples.now) }
 {
-    if !star {
-        return Ok(None);
+    let mut column = CellColumn::new(alloc);
+    column.reserve(tuples.len())?;
+    for place in 0..tuples.len() {
+        column.push(value(expr, &tuples.get(place)))?;
     }
-    match tuple.doc() {
-        Some(doc) => Ok(Some(doc.copy()?)),
-        None => Ok(None),
-    }
+    Ok(column)
+}
+
+/// The document of a tuple where whole documents are asked for.
+pub(crate) fn document_of<'a>(star: bool, tuple: &Sides<'a>) -> Option<&'a Doc>
+    ensures exact { option_copied result ≡ (if star then document_of tuple.now else None) }
+{
+    if star { tuple.doc() } else { None }
 }

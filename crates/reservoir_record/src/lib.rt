@@ -34,7 +34,7 @@ pub use laws::{
 };
 pub use parts::build_from_parts;
 pub use putting::put;
-pub use reading::{count, field, find};
+pub use reading::{count, field, find, find_near};
 pub use removing::remove;
 pub use steps::Steps;
 pub use taking::take;

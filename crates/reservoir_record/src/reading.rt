@@ -1,4 +1,4 @@
-ghost use Rattle.std.specs.Prelude.{ℕ, ◌≡◌, ◌+◌, ◌-◌, ◌*◌, ◌≤◌, ◌<◌, ◌^◌, List, Some, None, length, slice_get, option_copied, IfOk, IfErr};
+ghost use Rattle.std.specs.Prelude.{ℕ, ◌≡◌, ◌+◌, ◌-◌, ◌*◌, ◌≤◌, ◌<◌, ◌^◌, List, Some, None, true, length, slice_get, option_copied, option_map, IfOk, IfErr};
 ghost use Rattle.reservoir_record.specs.Spelling.{Spells, IsRecord};
 ghost use Rattle.reservoir_record.specs.Words.{IsWholeTable, value_at};
 ghost use Rattle.reservoir_record.specs.Finding.{value_of, StandsAt, FitsAt};
@@ -8,6 +8,7 @@ use crate::finding::place;
 use crate::numbers::Numbers;
 use crate::steps::Steps;
 use crate::word::word;
+use std::cmp::Ordering;
 use std::sync::ledger::{Blank, Ledger};
 
 /// How many fields the record has.
@@ -43,6 +44,49 @@ pub fn find<'a, L: Ledger>(bytes: &'a [u8], id: u32, steps: &mut Steps<L>) -> Op
     match place(&Numbers::new(bytes), count, id, steps) {
         Ok(place) => Some(value(bytes, count, place)),
         Err(_) => None,
+    }
+}
+
+/// The value of the field with a number, and the place of the field. It is looked for at a guessed place first; its probe
+/// is counted too.
+pub fn find_near<'a, L: Ledger>(
+    bytes: &'a [u8],
+    id: u32,
+    guess: u32,
+    steps: &mut Steps<L>,
+) -> Option<(u32, &'a [u8])>
+    requires { IsRecord bytes.now }
+    ensures exact { (fields : List Field) → Spells fields bytes.now → option_map (λ found. found.1.now) result ≡ value_of id fields }
+{
+    let count = count(bytes) as usize;
+    let numbers = Numbers::new(bytes);
+    let guess = guess as usize;
+    if stands_at(&numbers, count, guess, id, steps) {
+        return Some((guess as u32, value(bytes, count, guess)));
+    }
+    match place(&numbers, count, id, steps) {
+        Ok(place) => Some((place as u32, value(bytes, count, place))),
+        Err(_) => None,
+    }
+}
+
+// Whether the number stands at a place.
+fn stands_at<L: Ledger>(
+    numbers: &Numbers,
+    count: usize,
+    place: usize,
+    id: u32,
+    steps: &mut Steps<L>,
+) -> bool
+    requires { 8 + 8 * count ≤ length numbers.now.bytes.now }
+    ensures exact { result ≡ true → StandsAt numbers.now.bytes.now count id place }
+{
+    if place >= count {
+        return false;
+    }
+    match numbers.compare(place, id, steps) {
+        Ordering::Equal => true,
+        _ => false,
     }
 }
 

@@ -69,8 +69,9 @@ fn has_seven(alloc: Global, catalog: &Catalog, stored: &Record) -> Result<bool, 
     requires stored { stored.now ≡ record { id = 0; bytes = to_le_bytes w64 7 } ∷ [] }
 {
     let kinds = catalog.kinds_of("a");
-    let number = value_of_kind(Kind::Int, kinds.int_id, stored);
-    let any = value_under(&kinds, stored);
+    let mut guess = 0;
+    let number = value_of_kind(Kind::Int, kinds.int_id, stored, &mut guess);
+    let any = value_under(&kinds, stored, &mut guess);
     let whole = document(alloc, catalog, stored)?;
     Ok(
         matches!(number, Some(ValueRef::Int(7)))

@@ -1,9 +1,10 @@
-use Rattle.std.proofs.Common.{◌≡◌, length, drop}
+use Rattle.std.proofs.Common.{◌≡◌, length, map, drop}
 use Rattle.std.specs.Ordering.{eq_by_cmp}
 use Rattle.std.specs.Cmp.Lexicographic.{pointwise}
 use Rattle.doc_values.specs.Order.{total_order}
+use Rattle.sql_eval.specs.Resolved.{value_over}
 use Rattle.exec_finish.proofs.likeness.have_same_items.Given as goal
 
 abbrev pub invariant-loop-item : goal.invariant-loop-item
 invariant-loop-item l =
-    pointwise (eq_by_cmp total_order) (drop (length l.yielded) l.items) (drop (length l.yielded) l.others) ≡ pointwise (eq_by_cmp total_order) l.items l.others
+    pointwise (eq_by_cmp total_order) (map (value_over l.tuple) (drop (length l.yielded) l.items)) (map (value_over l.other) (drop (length l.yielded) l.others)) ≡ pointwise (eq_by_cmp total_order) (map (value_over l.tuple) l.items) (map (value_over l.other) l.others)

@@ -1,9 +1,0 @@
-use Rattle.std.proofs.Common.{◌≡◌, ◌++◌, map, flat_map, drop, codes}
-use Rattle.doc_values.specs.Value.{printed}
-use Rattle.exec_finish.specs.Answer.{separated}
-use Rattle.exec_finish.proofs.answer.append_values.Given as goal
-
--- the text so far and that of the values that are left make the text of all
-abbrev pub invariant-loop-item : goal.invariant-loop-item
-invariant-loop-item l =
-    l.text.items ++ flat_map (λ u. codes "," ++ u) (map printed (drop l.item-index l.others)) ≡ l.fn.text.items ++ separated (map printed l.items)

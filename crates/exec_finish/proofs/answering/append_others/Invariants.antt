@@ -1,9 +1,0 @@
-use Rattle.std.proofs.Common.{◌≡◌, ◌++◌, map, flat_map, drop, codes}
-use Rattle.doc_values.specs.Value.{printed}
-use Rattle.sql_eval.specs.Resolved.{value_over}
-use Rattle.exec_finish.proofs.answering.append_others.Given as goal
-
--- the text so far and that of the values that are left make the text of all
-abbrev pub invariant-loop-item : goal.invariant-loop-item
-invariant-loop-item l =
-    l.text.items ++ flat_map (λ u. codes "," ++ u) (map printed (map (value_over l.tuple) (drop l.item-index l.items))) ≡ l.fn.text.items ++ flat_map (λ u. codes "," ++ u) (map printed (map (value_over l.tuple) l.items))
