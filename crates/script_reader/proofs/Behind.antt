@@ -1,6 +1,6 @@
 -- A line that has its place and follows its session is the one that its statement makes behind the lines above it, and the other way round.
 use Rattle.std.proofs.Common.{◌≡◌, ℕ, zero, suc, ◌+◌, ◌<◌, ◌≤◌, Bool, true, false, ◌⊎◌, inl, inr, List, [], ◌∷◌, ◌++◌, length, take, Option, Some, None, arith, refl, ap, sym, ◌∙◌, subst, ⊎_elim}
-use Rattle.std.specs.Prelude.{◌↔◌, count_by, option_to_list, slice_get, slice_index_or, if◌then◌else◌}
+use Rattle.std.specs.Prelude.{count_by, option_to_list, slice_get, slice_index_or, if◌then◌else◌}
 use Rattle.std.specs.List.{Contains}
 use Rattle.std.proofs.lemmas.Bool.{cases_eq, eq-eqb, eqb-true, false≢true}
 use Rattle.std.proofs.lemmas.List.{length-take-le}
@@ -94,8 +94,8 @@ module _ (lines : List Line) (at : ℕ) (line : Line) where
     whom = λ upper. (
       λ h. let h1 = subst (λ list. Contains list upper) is h in subst (λ u. IsLastAbove lines line.session u at) (only_in first upper h1.0 h1.1 h1.2) last,
       λ h.
-      let same : first ≡ upper = omega (arith, h.last first last.stands, last.last upper h.stands) in
-      subst (λ list. Contains list upper) (sym is) (0, omega arith, same),
+          let same : first ≡ upper = omega (arith, h.last first last.stands, last.last upper h.stands) in
+          subst (λ list. Contains list upper) (sym is) (0, omega arith, same),
     );
     ascending = λ i j upper lower before at_i at_j.
         let within : j < length (first ∷ []) = slice_get_within (first ∷ []) j lower (sym (ap (λ list. slice_get list j) is) ∙ at_j) in

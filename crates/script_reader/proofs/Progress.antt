@@ -22,7 +22,7 @@ read_behind number above pieces (bad reason) = Err (record { line = number; why 
 
 pub read_one : (number : ℕ) (above : List Line) (piece : List ℕ) (pieces : List (List ℕ)) {next : Said} → said number above piece ≡ next → read_from number above (piece ∷ pieces) ≡ read_behind number above pieces next
 read_one number above piece pieces e = by (said number above piece) ∙ ap (read_behind number above pieces) e where
-  by : (s : Said) → elim s [ | nothing ↦ read_from (number + 1) above pieces | statement session text ↦ read_from (number + 1) (above ++ line_behind above session text ∷ []) pieces | bad reason ↦ Err (record { line = number; why = reason }) ]
+  by : (s : Said) → elim s [ nothing ↦ read_from (number + 1) above pieces | statement session text ↦ read_from (number + 1) (above ++ line_behind above session text ∷ []) pieces | bad reason ↦ Err (record { line = number; why = reason }) ]
       ≡ read_behind number above pieces s
   by nothing = refl
   by (statement session text) = refl
@@ -79,10 +79,10 @@ same_read number above (piece ∷ []) =
 same_read number above (piece ∷ next ∷ more) =
     read_one number above piece (without_empty_end (next ∷ more)) refl
     ∙ elim (said number above piece) as (λ s. read_behind number above (without_empty_end (next ∷ more)) s ≡ read_behind number above (next ∷ more) s) [
-        | nothing ↦ same_read (number + 1) above (next ∷ more)
-        | statement session text ↦ same_read (number + 1) (above ++ line_behind above session text ∷ []) (next ∷ more)
-        | bad reason ↦ refl
-      ]
+      | nothing ↦ same_read (number + 1) above (next ∷ more)
+      | statement session text ↦ same_read (number + 1) (above ++ line_behind above session text ∷ []) (next ∷ more)
+      | bad reason ↦ refl
+    ]
     ∙ sym (read_one number above piece (next ∷ more) refl)
 
 -- Too many bytes.

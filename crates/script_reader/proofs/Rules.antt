@@ -1,17 +1,15 @@
 -- What a reader makes of bytes keeps the rules of a script.
-use Rattle.std.proofs.Common.{◌≡◌, ℕ, zero, suc, ◌+◌, ◌<◌, ◌≤◌, Bool, true, false, cond, ◌⊎◌, inl, inr, List, [], ◌∷◌, ◌++◌, length, take, map, Option, Some, None, Ok, Err, not, arith, refl, ap, sym, ◌∙◌, subst, ⊎_elim}
-use Rattle.std.specs.Prelude.{◌==◌, nat_lt, ◌||◌, ◌↔◌, codes, if◌then◌else◌, slice_get}
+use Rattle.std.proofs.Common.{◌≡◌, ℕ, zero, suc, ◌+◌, ◌<◌, ◌≤◌, Bool, true, false, cond, ◌⊎◌, inl, inr, List, [], ◌∷◌, ◌++◌, length, take, Some, None, not, arith, refl, ap, sym, ◌∙◌, subst, ⊎_elim}
+use Rattle.std.specs.Prelude.{◌==◌, ◌||◌, ◌↔◌, codes, if◌then◌else◌, slice_get}
 use Rattle.std.specs.List.{slice_split, onto_first, list_all}
 use Rattle.std.specs.Str.{is_utf8}
-use Rattle.std.proofs.lemmas.Bool.{ltb-false}
-use Rattle.std.proofs.lemmas.List.{take-append-le, take_all, length_push, length-map}
+use Rattle.std.proofs.lemmas.List.{take-append-le, take_all}
 use Rattle.std.proofs.lemmas.List.Splits.{length-slice_split}
-use Rattle.script_reader.specs.Pieces.{Said, nothing, statement, bad, said, said_alone, spoken, pieces_of, without_empty_end, is_line_feed, IsSession, session_of, is_blank, is_remark, statement_in, past, is_gap}
-use Rattle.script_reader.specs.Reader.{script_of, read_from, line_behind}
+use Rattle.script_reader.specs.Pieces.{Said, nothing, statement, bad, said_alone, spoken, pieces_of, without_empty_end, is_line_feed, IsSession, session_of, is_blank, is_remark, statement_in, past, is_gap}
+use Rattle.script_reader.specs.Reader.{line_behind}
 use Rattle.script_reader.specs.Script.{most_script_bytes, IsScript}
 use Rattle.script_reader.proofs.Behind.{placed_behind, follows_behind, is_behind}
 use Rattle.script_reader.specs.declared.line.Line.{Line}
-use Rattle.script_reader.specs.declared.script_fault.ScriptFault.{ScriptFault}
 use Rattle.script_reader.specs.declared.why.Why.TheVariants.{Utf8}
 
 -- ---- a statement is of a session that there is

@@ -1,15 +1,15 @@
 -- The function from bytes to their script or fault, and the relations, are one.
-use Rattle.std.proofs.Common.{◌≡◌, ℕ, zero, suc, ◌+◌, ◌<◌, ◌≤◌, Bool, true, false, List, [], ◌∷◌, ◌++◌, length, take, Option, Some, None, Result, Ok, Err, arith, refl, ap, sym, ◌∙◌, subst, append-nil, append_assoc}
-use Rattle.std.specs.Prelude.{◌↔◌, nat_lt, if◌then◌else◌, slice_get}
+use Rattle.std.proofs.Common.{◌≡◌, ℕ, suc, ◌+◌, ◌≤◌, Bool, true, false, List, [], ◌∷◌, ◌++◌, length, take, Some, Result, Ok, Err, arith, refl, ap, sym, ◌∙◌, subst, append-nil, append_assoc}
+use Rattle.std.specs.Prelude.{◌↔◌, nat_lt, slice_get}
 use Rattle.std.proofs.lemmas.Bool.{ltb-true, ltb-false}
 use Rattle.std.proofs.lemmas.List.{take-append-le, take_all, length_push, length-append}
-use Rattle.script_reader.specs.Pieces.{Said, nothing, statement, bad, said, pieces_of}
+use Rattle.script_reader.specs.Pieces.{nothing, statement, bad, said, pieces_of}
 use Rattle.script_reader.specs.Reader.{script_of, read_from, line_behind}
 use Rattle.script_reader.specs.Script.{most_script_bytes, IsScript, MakeLines, none_left, no_line, one_line, IsScriptOf, HasFault, too_many, bad_piece}
 use Rattle.script_reader.specs.declared.line.Line.{Line}
 use Rattle.script_reader.specs.declared.script_fault.ScriptFault.{ScriptFault}
 use Rattle.script_reader.specs.declared.why.Why as why
-use Rattle.script_reader.proofs.Progress.{read_one, read_behind, script_of_long, short_if_good}
+use Rattle.script_reader.proofs.Progress.{read_one, script_of_long, short_if_good}
 use Rattle.script_reader.proofs.Rules.{Keeps, Keeps-nil, Keeps_push, said_known, length-pieces_of, IsScript-from_Keeps, Keeps-from_IsScript}
 
 -- ---- what is read is made

@@ -1,6 +1,6 @@
 -- The script that bytes are, or the fault for which they are none, as a function.
 use Rattle.std.specs.Prelude.{ℕ, suc, ◌+◌, ◌-◌, List, [], ◌∷◌, ◌++◌, length, reverse, position, count_by, Option, Result, Ok, Err, nat_lt, if◌then◌else◌, option_map, option_to_list}
-use Rattle.script_reader.specs.Pieces.{Said, nothing, statement, bad, said, pieces_of}
+use Rattle.script_reader.specs.Pieces.{nothing, statement, bad, said, pieces_of}
 use Rattle.script_reader.specs.Script.{most_script_bytes, is_said_by}
 use Rattle.script_reader.specs.declared.line.Line.{Line}
 use Rattle.script_reader.specs.declared.script_fault.ScriptFault.{ScriptFault}

@@ -1,7 +1,7 @@
 -- Which lines are a script, which bytes it is the script of, and which fault other bytes have, with no word on how either is found.
 use Rattle.std.specs.Prelude.{◌≡◌, ◌↔◌, ℕ, ◌+◌, ◌<◌, ◌≤◌, List, [], ◌∷◌, ◌++◌, Bool, ◌==◌, length, take, count_by, Some, slice_get}
 use Rattle.std.specs.List.{Contains}
-use Rattle.script_reader.specs.Pieces.{Said, nothing, statement, bad, said, pieces_of, IsSession}
+use Rattle.script_reader.specs.Pieces.{nothing, statement, bad, said, pieces_of, IsSession}
 use Rattle.script_reader.specs.declared.line.Line.{Line}
 use Rattle.script_reader.specs.declared.script_fault.ScriptFault.{ScriptFault}
 use Rattle.script_reader.specs.declared.why.Why as why
