@@ -10,7 +10,7 @@ use Rattle.sql_tree.specs.declared.statement.Statement.TheVariants as statement
 use Rattle.sql_tokens.specs.Tokens.{most_statement_bytes}
 use Rattle.sql_grammar.specs.Statement as grammar
 use Rattle.sql_grammar.specs.StatementReader.{statement_of}
-use Rattle.type_rules.specs.declared.type_fault.TypeFault.{TypeFault}
+use Rattle.type_rules.specs.declared.rule.Rule.{Rule}
 use Rattle.type_rules.specs.Fault.{fault_of}
 use Rattle.commit_core.specs.Write.{loads}
 use Rattle.document_records.specs.Limits.{most_weight}
@@ -45,8 +45,8 @@ module _ (keeps : KeepsLimits) (gives : GivesLight) (spelled : Spelled) (text na
   abbrev AreLight : Type 0
   AreLight = All IsWithinLimits docs × All (λ doc. weight_of doc ≤ most_weight) docs
 
-  light_by : (s : Statement) (fault : Option TypeFault) → statement_of text ≡ Some s → checked_plan s fault ≡ write (loads name docs) → AreLight
-  light_by s (Some fault) is e = absurd (cc)
+  light_by : (s : Statement) (broken : Option Rule) → statement_of text ≡ Some s → checked_plan s broken ≡ write (loads name docs) → AreLight
+  light_by s (Some rule) is e = absurd (cc)
   light_by (statement.Select select) None is e = absurd (cc)
   light_by (statement.Update collection sets test) None is e = absurd (cc)
   light_by (statement.Delete collection test) None is e = absurd (cc)

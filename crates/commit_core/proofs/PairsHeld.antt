@@ -12,7 +12,7 @@ use Rattle.doc_values.specs.declared.value.Value.{Value}
 use Rattle.std.specs.Str.{bytes_eq}
 use Rattle.commit_core.specs.State.{pair_of}
 use Rattle.doc_values.specs.Order.{same_kind}
-use Rattle.commit_core.specs.Write.{same_pair, with_pair, with_fields}
+use Rattle.commit_core.specs.Write.{same_pair, pairs_with, with_fields}
 use Rattle.document_records.proofs.CatalogNumbers.{contains_head, contains_later, both}
 
 abbrev Pairs : Type 0
@@ -54,17 +54,17 @@ any_there : (pair : List ℕ × Kind) (pairs : Pairs) → list_any (same_pair pa
 any_there pair [] e = absurd (false≢true e)
 any_there pair (p ∷ pairs) e = any_by pair p pairs (same_pair pair p) refl (any_there pair pairs) e
 
-pair_grows : (pairs : Pairs) (more pair : List ℕ × Kind) → Contains pairs pair → Contains (with_pair pairs more) pair
+pair_grows : (pairs : Pairs) (more pair : List ℕ × Kind) → Contains pairs pair → Contains (pairs_with pairs more) pair
 pair_grows pairs more pair h = by (list_any (same_pair more) pairs) refl
   where
-    by : (t : Bool) → list_any (same_pair more) pairs ≡ t → Contains (with_pair pairs more) pair
+    by : (t : Bool) → list_any (same_pair more) pairs ≡ t → Contains (pairs_with pairs more) pair
     by true is = simp is h
     by false is = simp is (contains_front pair pairs (more ∷ []) h)
 
-pair_there : (pairs : Pairs) (pair : List ℕ × Kind) → Contains (with_pair pairs pair) pair
+pair_there : (pairs : Pairs) (pair : List ℕ × Kind) → Contains (pairs_with pairs pair) pair
 pair_there pairs pair = by (list_any (same_pair pair) pairs) refl
   where
-    by : (t : Bool) → list_any (same_pair pair) pairs ≡ t → Contains (with_pair pairs pair) pair
+    by : (t : Bool) → list_any (same_pair pair) pairs ≡ t → Contains (pairs_with pairs pair) pair
     by true is = simp is (any_there pair pairs is)
     by false is = simp is (contains_last pair pairs)
 
@@ -72,17 +72,17 @@ pair_there pairs pair = by (list_any (same_pair pair) pairs) refl
 
 fields_grow : (fs : Fields) (pairs : Pairs) (pair : List ℕ × Kind) → Contains pairs pair → Contains (with_fields pairs fs) pair
 fields_grow [] pairs pair h = h
-fields_grow (f ∷ fs) pairs pair h = fields_grow fs (with_pair pairs (pair_of f)) pair (pair_grows pairs (pair_of f) pair h)
+fields_grow (f ∷ fs) pairs pair h = fields_grow fs (pairs_with pairs (pair_of f)) pair (pair_grows pairs (pair_of f) pair h)
 
 field_there : (fs : Fields) (pairs : Pairs) (k : ℕ) (f : List ℕ × Value) → slice_get fs k ≡ Some f → Contains (with_fields pairs fs) (pair_of f)
 field_there [] pairs k f e = absurd (cc)
 field_there (g ∷ fs) pairs zero f e =
     let same : g ≡ f = same_Some g f e in
-    fields_grow fs (with_pair pairs (pair_of g)) (pair_of f) (ap_there pairs g f same)
+    fields_grow fs (pairs_with pairs (pair_of g)) (pair_of f) (ap_there pairs g f same)
   where
-    ap_there : (pairs : Pairs) (g f : List ℕ × Value) → g ≡ f → Contains (with_pair pairs (pair_of g)) (pair_of f)
-    ap_there pairs g f same = subst (λ (x : List ℕ × Value). Contains (with_pair pairs (pair_of g)) (pair_of x)) same (pair_there pairs (pair_of g))
-field_there (g ∷ fs) pairs (suc k) f e = field_there fs (with_pair pairs (pair_of g)) k f e
+    ap_there : (pairs : Pairs) (g f : List ℕ × Value) → g ≡ f → Contains (pairs_with pairs (pair_of g)) (pair_of f)
+    ap_there pairs g f same = subst (λ (x : List ℕ × Value). Contains (pairs_with pairs (pair_of g)) (pair_of x)) same (pair_there pairs (pair_of g))
+field_there (g ∷ fs) pairs (suc k) f e = field_there fs (pairs_with pairs (pair_of g)) k f e
 
 -- ---- the pairs of documents
 

@@ -8,7 +8,7 @@ use Rattle.doc_values.specs.Value.{kind_of}
 use Rattle.doc_values.specs.declared.kind.Kind.{Kind}
 use Rattle.doc_values.specs.declared.kind.Kind.TheVariants as kind
 use Rattle.doc_values.specs.Order.{same_kind}
-use Rattle.commit_core.specs.Write.{same_pair, with_pair, with_fields}
+use Rattle.commit_core.specs.Write.{same_pair, pairs_with, with_fields}
 
 abbrev Pairs : Type 0
 Pairs = List (List ℕ × Kind)
@@ -53,16 +53,16 @@ once-push pairs pair once none i j a b e f same = by (place pairs pair i a e) (p
     by (inr x) (inl y) = absurd (apart pairs pair none j b y (sym same ∙ x.1))
     by (inr x) (inr y) = x.0 ∙ sym y.0
 
-once-pair : (pairs : Pairs) (pair : List ℕ × Kind) → AreOnce pairs → AreOnce (with_pair pairs pair)
+once-pair : (pairs : Pairs) (pair : List ℕ × Kind) → AreOnce pairs → AreOnce (pairs_with pairs pair)
 once-pair pairs pair once = by (list_any (same_pair pair) pairs) refl
   where
-    by : (t : Bool) → list_any (same_pair pair) pairs ≡ t → AreOnce (with_pair pairs pair)
+    by : (t : Bool) → list_any (same_pair pair) pairs ≡ t → AreOnce (pairs_with pairs pair)
     by true is = simp is once
     by false is = simp is (once-push pairs pair once is)
 
-once-pairs : (more pairs : Pairs) → AreOnce pairs → AreOnce (fold with_pair pairs more)
+once-pairs : (more pairs : Pairs) → AreOnce pairs → AreOnce (fold pairs_with pairs more)
 once-pairs [] pairs once = once
-once-pairs (pair ∷ more) pairs once = once-pairs more (with_pair pairs pair) (once-pair pairs pair once)
+once-pairs (pair ∷ more) pairs once = once-pairs more (pairs_with pairs pair) (once-pair pairs pair once)
 
 -- The pairs with those of documents stand once each.
 pub AreOnce-documents : (documents : List Fields) (pairs : Pairs) → AreOnce pairs → AreOnce (fold with_fields pairs documents)

@@ -23,8 +23,8 @@ use Rattle.row_columns.specs.Contents.{Output}
 use Rattle.row_columns.specs.Sides.{side_at}
 use Rattle.sql_eval.specs.Meaning.{meaning}
 use Rattle.sql_eval.specs.OneLine.{HaveOneLineArrays}
-use Rattle.type_rules.specs.declared.type_fault.TypeFault.{TypeFault}
-use Rattle.type_rules.specs.declared.type_fault.TypeFault.TheVariants as type_fault
+use Rattle.type_rules.specs.declared.rule.Rule.{Rule}
+use Rattle.type_rules.specs.declared.rule.Rule.TheVariants as rule
 use Rattle.type_rules.specs.Fault.{fault_of}
 use Rattle.type_rules.specs.Places.{scope_of, item_terms}
 use Rattle.exec_finish.specs.Answer.{line, ok_line, finished}
@@ -111,12 +111,11 @@ AreLines-full = AreLines-line 33 (codes " full") refl (IsPlain-tested (codes "! 
 AreLines-json : (n : ℕ) → AreLines (json_line n)
 AreLines-json n = AreLines-line 33 (codes " json " ++ decimal n) refl (EachIs-append _ (codes "! json ") (decimal n) (IsPlain-tested (codes "! json ") refl) (IsPlain-decimal n))
 
-AreLines-type : (fault : TypeFault) → AreLines (type_line fault)
-AreLines-type type_fault.Name = AreLines-line 33 (codes " type name") refl (IsPlain-tested (codes "! type name") refl)
-AreLines-type type_fault.Group = AreLines-line 33 (codes " type group") refl (IsPlain-tested (codes "! type group") refl)
-AreLines-type type_fault.Kind = AreLines-line 33 (codes " type kind") refl (IsPlain-tested (codes "! type kind") refl)
-AreLines-type type_fault.Wide = AreLines-line 33 (codes " type wide") refl (IsPlain-tested (codes "! type wide") refl)
-AreLines-type type_fault.Memory = AreLines-line 33 (codes " type ") refl (IsPlain-tested (codes "! type ") refl)
+AreLines-type : (r : Rule) → AreLines (type_line r)
+AreLines-type rule.Name = AreLines-line 33 (codes " type name") refl (IsPlain-tested (codes "! type name") refl)
+AreLines-type rule.Group = AreLines-line 33 (codes " type group") refl (IsPlain-tested (codes "! type group") refl)
+AreLines-type rule.Kind = AreLines-line 33 (codes " type kind") refl (IsPlain-tested (codes "! type kind") refl)
+AreLines-type rule.Wide = AreLines-line 33 (codes " type wide") refl (IsPlain-tested (codes "! type wide") refl)
 
 -- the laws of the crates below
 abbrev AnswersInLines : Type 0
@@ -225,9 +224,9 @@ IsPlainPlan-lawful gives (statement.Select select) = tt
 IsPlainPlan-lawful gives (statement.Update collection sets test) = AreLines-syntax
 IsPlainPlan-lawful gives (statement.Delete collection test) = AreLines-syntax
 
-IsPlainPlan-checked : GivesPlainArrays → (s : Statement) (fault : Option TypeFault) → IsPlainPlan (checked_plan s fault)
+IsPlainPlan-checked : GivesPlainArrays → (s : Statement) (broken : Option Rule) → IsPlainPlan (checked_plan s broken)
 IsPlainPlan-checked gives s None = IsPlainPlan-lawful gives s
-IsPlainPlan-checked gives s (Some fault) = AreLines-type fault
+IsPlainPlan-checked gives s (Some broken) = AreLines-type broken
 
 IsPlainPlan-in : GivesPlainArrays → (s : Option Statement) → IsPlainPlan (plan_in s)
 IsPlainPlan-in gives None = AreLines-syntax

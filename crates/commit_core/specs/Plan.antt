@@ -6,8 +6,8 @@ use Rattle.sql_tree.specs.declared.select.Select.{Select}
 use Rattle.sql_tree.specs.declared.statement.Statement.{Statement}
 use Rattle.sql_tree.specs.declared.statement.Statement.TheVariants as statement
 use Rattle.sql_grammar.specs.StatementReader.{statement_of}
-use Rattle.type_rules.specs.declared.type_fault.TypeFault.{TypeFault}
-use Rattle.type_rules.specs.declared.type_fault.TypeFault.TheVariants.{Name, Group, Kind, Wide, Memory}
+use Rattle.type_rules.specs.declared.rule.Rule.{Rule}
+use Rattle.type_rules.specs.declared.rule.Rule.TheVariants.{Name, Group, Kind, Wide}
 use Rattle.type_rules.specs.Fault.{fault_of}
 use Rattle.exec_finish.specs.Answer.{line}
 use Rattle.commit_core.specs.Write.{Write, loads}
@@ -22,17 +22,16 @@ pub data Plan : Type 0 where
 abbrev pub syntax_line : List ℕ
 syntax_line = line (codes "! syntax")
 
--- The word for a rule that is broken; want of memory is none.
-abbrev pub rule_word : TypeFault → List ℕ
+-- The word for a rule.
+abbrev pub rule_word : Rule → List ℕ
 rule_word Name = codes "name"
 rule_word Group = codes "group"
 rule_word Kind = codes "kind"
 rule_word Wide = codes "wide"
-rule_word Memory = []
 
 -- The line for a statement that breaks a rule, and no rule before that one.
-abbrev pub type_line : TypeFault → List ℕ
-type_line fault = line (codes "! type " ++ rule_word fault)
+abbrev pub type_line : Rule → List ℕ
+type_line rule = line (codes "! type " ++ rule_word rule)
 
 -- The line for a load that is refused for its document of this number, or with 0 because its text is no document and no array of documents.
 abbrev pub json_line : ℕ → List ℕ
@@ -51,9 +50,9 @@ lawful_plan (statement.Update collection sets test) = refused syntax_line
 lawful_plan (statement.Delete collection test) = refused syntax_line
 
 -- The plan of a statement, from the first rule that it breaks.
-abbrev pub checked_plan : Statement → Option TypeFault → Plan
+abbrev pub checked_plan : Statement → Option Rule → Plan
 checked_plan s None = lawful_plan s
-checked_plan s (Some fault) = refused (type_line fault)
+checked_plan s (Some rule) = refused (type_line rule)
 
 -- The plan of a statement, if there is one.
 abbrev pub plan_in : Option Statement → Plan

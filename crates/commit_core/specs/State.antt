@@ -3,13 +3,12 @@ use Rattle.std.specs.Prelude.{◌≡◌, ℕ, ◌<◌, ◌≤◌, List, [], Bool
 use Rattle.std.specs.List.{All, Contains, find}
 use Rattle.std.specs.Str.{bytes_eq}
 use Rattle.doc_values.specs.Doc.{Fields}
-use Rattle.doc_values.specs.Value.{kind_of}
 use Rattle.doc_values.specs.Weight.{weight_of}
 use Rattle.doc_values.specs.declared.kind.Kind.{Kind}
-use Rattle.doc_values.specs.declared.value.Value.{Value}
 use Rattle.doc_flatten.specs.Documents.{IsWithinLimits}
 use Rattle.attr_catalog.specs.Catalog.{most_attributes, most_versions}
 use Rattle.document_records.specs.Limits.{most_weight}
+pub use Rattle.document_records.specs.Pairs.{pair_of}
 
 -- How many collections a state may have.
 abbrev pub most_collections : ℕ
@@ -52,10 +51,6 @@ documents_of_rows (Some collection) = map (λ row. row.document) collection.rows
 -- The documents of a collection, in the order of their rows; none where it is unknown.
 abbrev pub documents_at : List ℕ → State → List Fields
 documents_at name state = documents_of_rows (collection_at name state)
-
--- The pair of name and kind that a field has.
-abbrev pub pair_of : List ℕ × Value → List ℕ × Kind
-pair_of field = (field.0, kind_of field.1)
 
 -- A document of a collection with these pairs: it keeps the limits of documents, weighs no more than it may, and the pair of each of its fields is among them.
 pub record IsDocumentOf (pairs : List (List ℕ × Kind)) (document : Fields) : Type 0 where

@@ -1,13 +1,10 @@
 -- What a write does to a state.
-use Rattle.std.specs.Prelude.{ℕ, ◌+◌, List, [], ◌∷◌, ◌++◌, Bool, ◌&&◌, ◌||◌, false, nat_lt, length, map, fold, Option, Some, None, if◌then◌else◌}
-use Rattle.std.specs.List.{list_any}
-use Rattle.std.specs.Str.{bytes_eq}
+use Rattle.std.specs.Prelude.{ℕ, ◌+◌, List, [], ◌∷◌, ◌++◌, Bool, ◌||◌, false, nat_lt, length, fold, Option, Some, None, if◌then◌else◌}
 use Rattle.doc_values.specs.Doc.{Fields}
-use Rattle.doc_values.specs.declared.kind.Kind.{Kind}
-use Rattle.doc_values.specs.Order.{same_kind}
 use Rattle.attr_catalog.specs.Catalog.{most_versions}
 use Rattle.attr_catalog.specs.Catalog.{most_attributes}
-use Rattle.commit_core.specs.State.{Row, Collection, State, is_named, collection_at, most_collections, pair_of}
+pub use Rattle.document_records.specs.Pairs.{same_pair, pairs_with, with_fields}
+use Rattle.commit_core.specs.State.{Row, Collection, State, is_named, collection_at, most_collections}
 
 -- A write: a load of documents into a collection.
 pub data Write : Type 0 where
@@ -23,18 +20,6 @@ pub data Effect : Type 0 where
 abbrev pub rows_from : ℕ → List Fields → List Row
 rows_from number [] = []
 rows_from number (document ∷ documents) = record { number = number; document = document } ∷ rows_from (number + 1) documents
-
--- Two pairs of name and kind are the same.
-abbrev pub same_pair : List ℕ × Kind → List ℕ × Kind → Bool
-same_pair a b = bytes_eq a.0 b.0 && same_kind a.1 b.1
-
--- The pairs with one more, if it is not among them.
-abbrev pub with_pair : List (List ℕ × Kind) → List ℕ × Kind → List (List ℕ × Kind)
-with_pair pairs pair = if list_any (same_pair pair) pairs then pairs else pairs ++ pair ∷ []
-
--- The pairs with those of a document's fields.
-abbrev pub with_fields : List (List ℕ × Kind) → Fields → List (List ℕ × Kind)
-with_fields pairs fields = fold with_pair pairs (map pair_of fields)
 
 -- A collection that nothing was put into.
 abbrev pub new_collection : List ℕ → Collection

@@ -5,7 +5,7 @@ ghost use Rattle.commit_core.specs.Replies.{full_line};
 
 use doc_values::Bytes;
 use std::alloc::{AllocError, Global};
-use type_rules::TypeFault;
+use type_rules::Rule;
 
 /// The line for a text that spells no statement.
 pub(crate) fn syntax_line(alloc: Global) -> Result<Bytes, AllocError>
@@ -15,17 +15,16 @@ pub(crate) fn syntax_line(alloc: Global) -> Result<Bytes, AllocError>
 }
 
 /// The line for a statement that breaks a rule.
-pub(crate) fn type_line(alloc: Global, fault: TypeFault) -> Result<Bytes, AllocError>
-    ensures ok { IfOk result (λ line. line ≡ type_line fault) }
+pub(crate) fn type_line(alloc: Global, rule: Rule) -> Result<Bytes, AllocError>
+    ensures ok { IfOk result (λ line. line ≡ type_line rule) }
 {
-    let rule = match fault {
-        TypeFault::Name => "name",
-        TypeFault::Group => "group",
-        TypeFault::Kind => "kind",
-        TypeFault::Wide => "wide",
-        TypeFault::Memory => "",
+    let word = match rule {
+        Rule::Name => "name",
+        Rule::Group => "group",
+        Rule::Kind => "kind",
+        Rule::Wide => "wide",
     };
-    Ok(Bytes::from_vec(format!(in alloc; "! type {rule}\n")?.into_bytes()))
+    Ok(Bytes::from_vec(format!(in alloc; "! type {word}\n")?.into_bytes()))
 }
 
 /// The line for a load that is refused for its document of this number; 0 where its text is no document and no array of them.

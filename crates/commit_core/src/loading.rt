@@ -4,7 +4,7 @@ ghost use Rattle.doc_values.specs.Weight.{weight_of};
 ghost use Rattle.reservoir_record.specs.Spelling.{values};
 ghost use Rattle.attr_catalog.specs.Catalog.{most_attributes};
 ghost use Rattle.document_records.specs.Limits.{most_weight};
-ghost use Rattle.commit_core.specs.Write.{with_pair, with_fields};
+ghost use Rattle.commit_core.specs.Write.{pairs_with, with_fields};
 ghost use Rattle.document_records.specs.StoredDocument.{pairs_of, IsKept};
 ghost use Rattle.commit_core.specs.StoredTable.{IsTable};
 ghost use Rattle.document_records.specs.Parts.{AreIn};
@@ -159,8 +159,8 @@ fn number_pair(
 ) -> Result<u32, LoadRefusal>
     ensures grown { HasGrown catalog.old catalog.new }
     ensures number { IfOk result (λ id. slice_get (pairs_of catalog.new) id ≡ Some (name.now, kind)) }
-    ensures pairs { OnOk result (pairs_of catalog.new ≡ with_pair (pairs_of catalog.old) (name.now, kind)) }
-    ensures full { result ≡ Err LoadRefusal.Full → most_attributes < length (with_pair (pairs_of catalog.old) (name.now, kind)) }
+    ensures pairs { OnOk result (pairs_of catalog.new ≡ pairs_with (pairs_of catalog.old) (name.now, kind)) }
+    ensures full { result ≡ Err LoadRefusal.Full → most_attributes < length (pairs_with (pairs_of catalog.old) (name.now, kind)) }
 {
     if let Some(id) = catalog.find_guessed(guess, name, kind) {
         return Ok(id.0);

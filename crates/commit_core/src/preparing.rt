@@ -46,8 +46,8 @@ fn plan_statement(alloc: Global, statement: &Statement) -> Result<Planned, Alloc
         Ok(Typed::Load { collection, json }) => plan_load(alloc, collection, json.text()),
         Ok(Typed::Select(question)) => Ok(Planned::Read(question)),
         Ok(Typed::Update(_) | Typed::Delete(_)) => unreachable!(),
+        Err(TypeFault::Broken(rule)) => Ok(Planned::Refused(type_line(alloc, rule)?)),
         Err(TypeFault::Memory) => Err(AllocError),
-        Err(fault) => Ok(Planned::Refused(type_line(alloc, fault)?)),
     }
 }
 

@@ -1,4 +1,5 @@
 pub mod Limits
+pub mod Pairs
 pub mod StoredValue
 pub mod StoredDocument
 pub mod ReadBack

@@ -7,11 +7,8 @@ use Rattle.doc_values.specs.declared.kind.Kind.{Kind}
 use Rattle.doc_values.specs.declared.value.Value.{Value}
 use Rattle.reservoir_record.specs.declared.fields.Field.{Field}
 use Rattle.attr_catalog.specs.Attribute.{Attribute}
+pub use Rattle.document_records.specs.Pairs.{Pairs}
 use Rattle.document_records.specs.StoredValue.{bytes_of, value_in, AreReadable}
-
--- Pairs of name and kind.
-abbrev pub Pairs : Type 0
-Pairs = List (List ℕ × Kind)
 
 -- The pairs of attributes, in the order of their numbers.
 abbrev pub pairs_of : List Attribute → Pairs

@@ -6,7 +6,7 @@ use Rattle.doc_values.specs.Value.{kind_of}
 use Rattle.doc_values.specs.declared.kind.Kind.{Kind}
 use Rattle.doc_values.specs.declared.value.Value.{Value}
 use Rattle.attr_catalog.specs.Attribute.{Attribute}
-use Rattle.layout_store.specs.Numbering.{with_pair, with_fields}
+use Rattle.layout_store.specs.Numbering.{pairs_with, with_fields}
 use Rattle.document_records.specs.StoredValue.{bytes_of, AreReadable}
 use Rattle.document_records.specs.StoredDocument.{Pairs, pairs_of}
 use Rattle.layout_store.specs.Numbering.{HasGrown, HaveEntries}
@@ -59,14 +59,14 @@ entries_more old new g d k es name v of id at kinded h a r =
     (entries_push (pairs_of new) 0 (take k d) es (name, v) (id, k) before (a ∙ ap (λ (x : Kind). Some (name, x)) kinded) (omega (arith, long)) (subst (λ (x : Kind). AreReadable x (bytes_of v)) kinded r))
 
 -- and its pair
-pub pairs_more : (first old new : Pairs) (d : Fields) (k : ℕ) (name : List ℕ) (v : Value) (of : Kind) → slice_get d k ≡ Some (name, v) → of ≡ kind_of v → old ≡ with_fields first (take k d) → new ≡ with_pair old (name, of)
+pub pairs_more : (first old new : Pairs) (d : Fields) (k : ℕ) (name : List ℕ) (v : Value) (of : Kind) → slice_get d k ≡ Some (name, v) → of ≡ kind_of v → old ≡ with_fields first (take k d) → new ≡ pairs_with old (name, of)
     → new ≡ with_fields first (take (k + 1) d)
 pairs_more first old new d k name v of at kinded before more =
-    more ∙ ap (λ (x : Kind). with_pair old (name, x)) kinded ∙ ap (λ (ps : Pairs). with_pair ps (name, kind_of v)) before ∙ sym (fields_more d first k (name, v) at)
+    more ∙ ap (λ (x : Kind). pairs_with old (name, x)) kinded ∙ ap (λ (ps : Pairs). pairs_with ps (name, kind_of v)) before ∙ sym (fields_more d first k (name, v) at)
 
 -- so where one pair more is too much, all are
-pub too_many : (first old : Pairs) (d : Fields) (k m : ℕ) (name : List ℕ) (v : Value) (of : Kind) → slice_get d k ≡ Some (name, v) → of ≡ kind_of v → old ≡ with_fields first (take k d) → m < length (with_pair old (name, of))
+pub too_many : (first old : Pairs) (d : Fields) (k m : ℕ) (name : List ℕ) (v : Value) (of : Kind) → slice_get d k ≡ Some (name, v) → of ≡ kind_of v → old ≡ with_fields first (take k d) → m < length (pairs_with old (name, of))
     → m < length (with_fields first d)
 too_many first old d k m name v of at kinded before h =
-    let e : length (with_pair old (name, of)) ≡ length (with_fields first (take (k + 1) d)) = ap length (pairs_more first old (with_pair old (name, of)) d k name v of at kinded before refl) in
+    let e : length (pairs_with old (name, of)) ≡ length (with_fields first (take (k + 1) d)) = ap length (pairs_more first old (pairs_with old (name, of)) d k name v of at kinded before refl) in
     omega (arith, fields_upto d first (k + 1), e)

@@ -17,7 +17,7 @@ use Rattle.attr_catalog.specs.Attribute.{Attribute, fresh}
 use Rattle.attr_catalog.specs.Catalog.{is_of, number, id_of}
 use Rattle.attr_catalog.specs.Catalog as catalog
 use Rattle.doc_values.specs.Order.{same_kind}
-use Rattle.layout_store.specs.Numbering.{same_pair, with_pair, with_fields}
+use Rattle.layout_store.specs.Numbering.{same_pair, pairs_with, with_fields}
 use Rattle.document_records.specs.StoredDocument.{Pairs, pairs_of}
 use Rattle.layout_store.specs.Numbering.{IsFresh, HasGrown}
 use Rattle.document_records.proofs.CatalogNumbers.{stands_for, pair_at}
@@ -66,7 +66,7 @@ more_by : (name : List ℕ) (of : Kind) (attributes : List Attribute) (t : Bool)
 more_by name of attributes true = refl
 more_by name of attributes false = map-append (λ (a : Attribute). (a.name, a.kind)) attributes (fresh name of ∷ [])
 
-pub pairs-with_pair : (name : List ℕ) (of : Kind) (attributes : List Attribute) → pairs_of (catalog.with_pair name of attributes) ≡ with_pair (pairs_of attributes) (name, of)
+pub pairs-with_pair : (name : List ℕ) (of : Kind) (attributes : List Attribute) → pairs_of (catalog.with_pair name of attributes) ≡ pairs_with (pairs_of attributes) (name, of)
 pairs-with_pair name of attributes =
     more_by name of attributes (is_some (id_of name of attributes))
     ∙ ap (λ (t : Bool). cond t (pairs_of attributes) (pairs_of attributes ++ (name, of) ∷ [])) (known_is name of attributes)
@@ -77,7 +77,7 @@ number_at name of attributes id h =
     pair_at attributes id.0 s.attribute s.there ∙ ap (λ (n : List ℕ). Some (n, s.attribute.kind)) (sym s.named) ∙ ap (λ (k : Kind). Some (name, k)) (sym s.kinded)
 
 -- where a pair is new there is one more
-pub length-new : (name : List ℕ) (of : Kind) (attributes : List Attribute) → id_of name of attributes ≡ None → length (with_pair (pairs_of attributes) (name, of)) ≡ length attributes + 1
+pub length-new : (name : List ℕ) (of : Kind) (attributes : List Attribute) → id_of name of attributes ≡ None → length (pairs_with (pairs_of attributes) (name, of)) ≡ length attributes + 1
 length-new name of attributes h =
     let absent : list_any (same_pair (name, of)) (pairs_of attributes) ≡ false = sym (known_is name of attributes) ∙ ap (λ (o : Option AttrId). is_some o) h in
     ap length (ap (λ (t : Bool). cond t (pairs_of attributes) (pairs_of attributes ++ (name, of) ∷ [])) absent)
@@ -89,21 +89,21 @@ one_longer_by : (pairs : Pairs) (pair : List ℕ × Kind) (t : Bool) → length 
 one_longer_by pairs pair true = omega arith
 one_longer_by pairs pair false = omega (arith, length-append pairs (pair ∷ []))
 
-one_longer : (pairs : Pairs) (pair : List ℕ × Kind) → length pairs ≤ length (with_pair pairs pair)
+one_longer : (pairs : Pairs) (pair : List ℕ × Kind) → length pairs ≤ length (pairs_with pairs pair)
 one_longer pairs pair = one_longer_by pairs pair (list_any (same_pair pair) pairs)
 
 pub fields_longer : (d : Fields) (pairs : Pairs) → length pairs ≤ length (with_fields pairs d)
 fields_longer [] pairs = omega arith
-fields_longer (f ∷ fs) pairs = omega (arith, one_longer pairs (f.0, kind_of f.1), fields_longer fs (with_pair pairs (f.0, kind_of f.1)))
+fields_longer (f ∷ fs) pairs = omega (arith, one_longer pairs (f.0, kind_of f.1), fields_longer fs (pairs_with pairs (f.0, kind_of f.1)))
 
 -- up to a place, and one more
-fields_next : (d : Fields) (pairs : Pairs) (k : ℕ) (f : List ℕ × Value) → slice_get d k ≡ Some f → with_fields pairs (take (suc k) d) ≡ with_pair (with_fields pairs (take k d)) (f.0, kind_of f.1)
+fields_next : (d : Fields) (pairs : Pairs) (k : ℕ) (f : List ℕ × Value) → slice_get d k ≡ Some f → with_fields pairs (take (suc k) d) ≡ pairs_with (with_fields pairs (take k d)) (f.0, kind_of f.1)
 fields_next [] pairs k f h = absurd (cc)
-fields_next (g ∷ []) pairs zero f h = let same : g ≡ f = cc in ap (λ (x : List ℕ × Value). with_pair pairs (x.0, kind_of x.1)) same
-fields_next (g ∷ (n ∷ gs)) pairs zero f h = let same : g ≡ f = cc in ap (λ (x : List ℕ × Value). with_pair pairs (x.0, kind_of x.1)) same
-fields_next (g ∷ gs) pairs (suc k) f h = fields_next gs (with_pair pairs (g.0, kind_of g.1)) k f h
+fields_next (g ∷ []) pairs zero f h = let same : g ≡ f = cc in ap (λ (x : List ℕ × Value). pairs_with pairs (x.0, kind_of x.1)) same
+fields_next (g ∷ (n ∷ gs)) pairs zero f h = let same : g ≡ f = cc in ap (λ (x : List ℕ × Value). pairs_with pairs (x.0, kind_of x.1)) same
+fields_next (g ∷ gs) pairs (suc k) f h = fields_next gs (pairs_with pairs (g.0, kind_of g.1)) k f h
 
-pub fields_more : (d : Fields) (pairs : Pairs) (k : ℕ) (f : List ℕ × Value) → slice_get d k ≡ Some f → with_fields pairs (take (k + 1) d) ≡ with_pair (with_fields pairs (take k d)) (f.0, kind_of f.1)
+pub fields_more : (d : Fields) (pairs : Pairs) (k : ℕ) (f : List ℕ × Value) → slice_get d k ≡ Some f → with_fields pairs (take (k + 1) d) ≡ pairs_with (with_fields pairs (take k d)) (f.0, kind_of f.1)
 fields_more d pairs k f h = let one : k + 1 ≡ suc k = omega arith in ap (λ (n : ℕ). with_fields pairs (take n d)) one ∙ fields_next d pairs k f h
 
 -- more fields have no fewer pairs
@@ -111,7 +111,7 @@ pub fields_upto : (d : Fields) (pairs : Pairs) (k : ℕ) → length (with_fields
 fields_upto [] pairs zero = omega arith
 fields_upto [] pairs (suc k) = omega arith
 fields_upto (g ∷ gs) pairs zero = fields_longer (g ∷ gs) pairs
-fields_upto (g ∷ gs) pairs (suc k) = fields_upto gs (with_pair pairs (g.0, kind_of g.1)) k
+fields_upto (g ∷ gs) pairs (suc k) = fields_upto gs (pairs_with pairs (g.0, kind_of g.1)) k
 
 -- ---- a list that grows
 

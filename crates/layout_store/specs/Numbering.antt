@@ -1,35 +1,15 @@
 -- How a document is numbered: its pairs that are new are appended to the catalog, and its fields are sorted by their numbers.
-use Rattle.std.specs.Prelude.{◌≡◌, ℕ, ◌+◌, ◌≤◌, List, [], ◌∷◌, ◌++◌, Some, All, Bool, ◌&&◌, length, map, fold, take, drop, slice_get, if◌then◌else◌}
-use Rattle.std.specs.List.{list_any}
+use Rattle.std.specs.Prelude.{◌≡◌, ℕ, ◌+◌, ◌≤◌, List, [], ◌∷◌, Some, All, length, map, take, drop, slice_get}
 use Rattle.std.specs.Option.{option_map_or}
-use Rattle.std.specs.Str.{bytes_eq}
 use Rattle.doc_values.specs.Doc.{Fields}
-use Rattle.doc_values.specs.Order.{same_kind}
 use Rattle.doc_values.specs.Value.{kind_of}
-use Rattle.doc_values.specs.declared.kind.Kind.{Kind}
-use Rattle.doc_values.specs.declared.value.Value.{Value}
 use Rattle.reservoir_record.specs.declared.fields.Field.{Field}
 use Rattle.reservoir_record.specs.Spelling.{AreFields, values}
 use Rattle.attr_catalog.specs.Attribute.{Attribute, fresh}
 use Rattle.document_records.specs.Limits.{most_weight}
+pub use Rattle.document_records.specs.Pairs.{pair_of, same_pair, pairs_with, with_fields}
 use Rattle.document_records.specs.StoredValue.{bytes_of, AreReadable}
 use Rattle.document_records.specs.StoredDocument.{Pairs, document_stored, IsKept}
-
--- Two pairs of name and kind are the same.
-abbrev pub same_pair : List ℕ × Kind → List ℕ × Kind → Bool
-same_pair a b = bytes_eq a.0 b.0 && same_kind a.1 b.1
-
--- The pairs with one more, if it is not among them.
-abbrev pub with_pair : List (List ℕ × Kind) → List ℕ × Kind → List (List ℕ × Kind)
-with_pair pairs pair = if list_any (same_pair pair) pairs then pairs else pairs ++ pair ∷ []
-
--- The pair of name and kind that a field has.
-abbrev pub pair_of : List ℕ × Value → List ℕ × Kind
-pair_of field = (field.0, kind_of field.1)
-
--- The pairs with those of a document's fields.
-abbrev pub with_fields : List (List ℕ × Kind) → Fields → List (List ℕ × Kind)
-with_fields pairs fields = fold with_pair pairs (map pair_of fields)
 
 -- The attribute is as a catalog begins one: no document holds it.
 abbrev pub IsFresh : Attribute → Type 0

@@ -8,7 +8,7 @@ ghost use Rattle.attr_catalog.specs.Catalog.{most_attributes};
 ghost use Rattle.document_records.specs.Limits.{most_weight};
 ghost use Rattle.document_records.specs.Parts.{AreIn};
 ghost use Rattle.document_records.specs.StoredDocument.{pairs_of};
-ghost use Rattle.layout_store.specs.Numbering.{with_pair, with_fields, HasGrown, HaveEntries, fields_made, IsRecordOf};
+ghost use Rattle.layout_store.specs.Numbering.{pairs_with, with_fields, HasGrown, HaveEntries, fields_made, IsRecordOf};
 
 use crate::grow_fault::GrowFault;
 use attr_catalog::{AddFault, Catalog};
@@ -64,8 +64,8 @@ fn number_fields(
 fn number_pair(catalog: &mut Catalog, name: &str, kind: Kind) -> Result<u32, GrowFault>
     ensures grown { HasGrown catalog.old catalog.new }
     ensures number { IfOk result (λ id. slice_get (pairs_of catalog.new) id ≡ Some (name.now, kind)) }
-    ensures pairs { OnOk result (pairs_of catalog.new ≡ with_pair (pairs_of catalog.old) (name.now, kind)) }
-    ensures full { result ≡ Err GrowFault.Full → most_attributes < length (with_pair (pairs_of catalog.old) (name.now, kind)) }
+    ensures pairs { OnOk result (pairs_of catalog.new ≡ pairs_with (pairs_of catalog.old) (name.now, kind)) }
+    ensures full { result ≡ Err GrowFault.Full → most_attributes < length (pairs_with (pairs_of catalog.old) (name.now, kind)) }
 {
     match catalog.add(name, kind) {
         Ok(id) => Ok(id.0),

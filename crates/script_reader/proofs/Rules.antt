@@ -1,15 +1,15 @@
--- The lines that a script is keep the rules.
-use Rattle.std.proofs.Common.{◌≡◌, ℕ, zero, suc, ◌+◌, ◌<◌, ◌≤◌, Bool, true, false, cond, ◌⊎◌, inl, inr, List, [], ◌∷◌, ◌++◌, length, take, map, Option, Some, None, Ok, Err, not, arith, refl, ap, sym, ◌∙◌, subst, ⊎_elim}
-use Rattle.std.specs.Prelude.{◌==◌, nat_lt, ◌||◌, ◌↔◌, codes, if◌then◌else◌, slice_get}
+-- What a reader makes of bytes keeps the rules of a script.
+use Rattle.std.proofs.Common.{◌≡◌, ℕ, zero, suc, ◌+◌, ◌<◌, ◌≤◌, Bool, true, false, cond, ◌⊎◌, inl, inr, List, [], ◌∷◌, ◌++◌, length, take, Some, None, not, arith, refl, ap, sym, ◌∙◌, subst, ⊎_elim}
+use Rattle.std.specs.Prelude.{◌==◌, ◌||◌, ◌↔◌, codes, if◌then◌else◌, slice_get}
 use Rattle.std.specs.List.{slice_split, onto_first, list_all}
 use Rattle.std.specs.Str.{is_utf8}
-use Rattle.std.proofs.lemmas.Bool.{ltb-false}
-use Rattle.std.proofs.lemmas.List.{take-append-le, take_all, length_push, length-map}
+use Rattle.std.proofs.lemmas.List.{take-append-le, take_all}
 use Rattle.std.proofs.lemmas.List.Splits.{length-slice_split}
-use Rattle.script_reader.specs.Pieces.{Said, nothing, statement, bad, said, spoken, pieces_of, without_empty_end, is_line_feed, IsSession, session_of, is_blank, is_remark, statement_in, past, is_gap}
-use Rattle.script_reader.specs.Script.{script_of, first_fault, lines_behind, line_behind, unless_fault, most_script_bytes, IsScript}
+use Rattle.script_reader.specs.Pieces.{Said, nothing, statement, bad, said_alone, spoken, pieces_of, without_empty_end, is_line_feed, IsSession, session_of, is_blank, is_remark, statement_in, past, is_gap}
+use Rattle.script_reader.specs.Reader.{line_behind}
+use Rattle.script_reader.specs.Script.{most_script_bytes, IsScript}
+use Rattle.script_reader.proofs.Behind.{placed_behind, follows_behind, is_behind}
 use Rattle.script_reader.specs.declared.line.Line.{Line}
-use Rattle.script_reader.specs.declared.script_fault.ScriptFault.{ScriptFault}
 use Rattle.script_reader.specs.declared.why.Why.TheVariants.{Utf8}
 
 -- ---- a statement is of a session that there is
@@ -22,7 +22,7 @@ chosen true true other session text h = absurd (cc)
 chosen true false other session text h = h
 chosen false quiet other session text h = absurd (cc)
 
-pub said_known : (piece : List ℕ) (session : ℕ) (text : List ℕ) → said piece ≡ statement session text → IsSession session
+pub said_known : (piece : List ℕ) (session : ℕ) (text : List ℕ) → said_alone piece ≡ statement session text → IsSession session
 said_known piece session text h = spoken_known _ _ session text (chosen (is_utf8 piece) (list_all is_blank piece || is_remark piece) (statement_in (past is_gap piece)) session text h)
 
 -- ---- the sessions are those whose numbers can be written
@@ -50,7 +50,7 @@ length-without_empty_end : (part : List ℕ) (parts : List (List ℕ)) → 0 < l
 length-without_empty_end part [] some = omega arith
 length-without_empty_end part (next ∷ more) some = omega arith
 
-length-pieces_of : (bytes : List ℕ) → length (pieces_of bytes) ≤ length bytes
+pub length-pieces_of : (bytes : List ℕ) → length (pieces_of bytes) ≤ length bytes
 length-pieces_of [] = omega arith
 length-pieces_of (x ∷ bytes) =
     let parts = slice_split is_line_feed bytes in
@@ -67,15 +67,16 @@ get_push [] y x (suc k) h = absurd (cc)
 get_push (z ∷ xs) y x zero h = inl (omega arith, h)
 get_push (z ∷ xs) y x (suc k) h = ⊎_elim (λ before. inl (omega arith, before.1)) (λ last. inr (ap suc last.0, last.1)) (get_push xs y x k h)
 
+-- ---- the lines that a reader makes
 -- Each line is the one that its statement makes behind those before it, by a session that there is.
-record Keeps (lines : List Line) : Type 0 where
-  behind : (k : ℕ) (line : Line) → slice_get lines k ≡ Some line → line ≡ line_behind (take k lines) line.session line.text
-  known : (k : ℕ) (line : Line) → slice_get lines k ≡ Some line → IsSession line.session
+pub record Keeps (lines : List Line) : Type 0 where
+  pub behind : (k : ℕ) (line : Line) → slice_get lines k ≡ Some line → line ≡ line_behind (take k lines) line.session line.text
+  pub known : (k : ℕ) (line : Line) → slice_get lines k ≡ Some line → IsSession line.session
 
-Keeps-nil : Keeps []
+pub Keeps-nil : Keeps []
 Keeps-nil = record { behind = λ k line h. absurd (cc); known = λ k line h. absurd (cc) }
 
-Keeps_push : (lines : List Line) (session : ℕ) (text : List ℕ) → Keeps lines → IsSession session → Keeps (lines ++ line_behind lines session text ∷ [])
+pub Keeps_push : (lines : List Line) (session : ℕ) (text : List ℕ) → Keeps lines → IsSession session → Keeps (lines ++ line_behind lines session text ∷ [])
 Keeps_push lines session text keeps known =
     let new = line_behind lines session text in
     record {
@@ -91,42 +92,17 @@ Keeps_push lines session text keeps known =
           (get_push lines new line k h);
     }
 
--- The pieces keep the rules, one by one.
-lines_keep : (before : List Line) (pieces : List (List ℕ)) → Keeps before → Keeps (lines_behind before (map said pieces))
-lines_keep before [] keeps = keeps
-lines_keep before (piece ∷ pieces) keeps =
-    elim (said piece) as (λ s. said piece ≡ s → Keeps (lines_behind before (s ∷ map said pieces))) [
-      | nothing ↦ λ e. lines_keep before pieces keeps
-      | statement session text ↦ λ e. lines_keep (before ++ line_behind before session text ∷ []) pieces (Keeps_push before session text keeps (said_known piece session text e))
-      | bad why ↦ λ e. lines_keep before pieces keeps
-    ] refl
+-- Such lines, if there are not too many, are a script's, and a script's are such lines.
+pub IsScript-from_Keeps : (lines : List Line) → Keeps lines → length lines ≤ most_script_bytes → IsScript lines
+IsScript-from_Keeps lines keeps few = record {
+  known = keeps.known;
+  placed = λ at line stands. placed_behind lines at line stands (keeps.behind at line stands);
+  following = λ at line stands. follows_behind lines at line stands (keeps.behind at line stands);
+  few = few;
+}
 
-length-lines_behind : (before : List Line) (saids : List Said) → length (lines_behind before saids) ≤ length before + length saids
-length-lines_behind before [] = omega arith
-length-lines_behind before (nothing ∷ more) = omega (arith, length-lines_behind before more)
-length-lines_behind before (statement session text ∷ more) =
-    let new = line_behind before session text in
-    omega (arith, length-lines_behind (before ++ new ∷ []) more, length_push before new)
-length-lines_behind before (bad why ∷ more) = omega (arith, length-lines_behind before more)
-
-good_lines : (fault : Option ScriptFault) (made lines : List Line) → unless_fault fault made ≡ Ok lines → made ≡ lines
-good_lines None made lines h = cc
-good_lines (Some fault) made lines h = absurd (cc)
-
-IsScript-from_lines : (bytes : List ℕ) → length bytes ≤ most_script_bytes → IsScript (lines_behind [] (map said (pieces_of bytes)))
-IsScript-from_lines bytes short =
-    let keeps = lines_keep [] (pieces_of bytes) Keeps-nil in
-    record {
-      behind = keeps.behind;
-      known = keeps.known;
-      few = omega (arith, length-lines_behind [] (map said (pieces_of bytes)), length-map (pieces_of bytes) said, length-pieces_of bytes);
-    }
-
-script_is : (bytes : List ℕ) (lines : List Line) (long : Bool) (fault : ScriptFault) → nat_lt most_script_bytes (length bytes) ≡ long
-    → (if long then Err fault else unless_fault (first_fault 1 (map said (pieces_of bytes))) (lines_behind [] (map said (pieces_of bytes)))) ≡ Ok lines → IsScript lines
-script_is bytes lines true fault e h = absurd (cc)
-script_is bytes lines false fault e h = subst IsScript (good_lines _ _ lines h) (IsScript-from_lines bytes (ltb-false _ _ e))
-
--- The script that bytes are keeps the rules.
-pub rules_kept : (bytes : List ℕ) (lines : List Line) → script_of bytes ≡ Ok lines → IsScript lines
-rules_kept bytes lines h = script_is bytes lines (nat_lt most_script_bytes (length bytes)) _ refl h
+pub Keeps-from_IsScript : (lines : List Line) → IsScript lines → Keeps lines
+Keeps-from_IsScript lines rules = record {
+  behind = λ at line stands. is_behind lines at line stands (rules.placed at line stands) (rules.following at line stands);
+  known = rules.known;
+}

@@ -1,7 +1,7 @@
 pub mod Draft
 pub mod Laws
 pub mod Pieces
-pub mod Relation
+pub mod Reader
 pub mod Script
 pub mod Told
 pub mod Why

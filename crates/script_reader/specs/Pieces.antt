@@ -2,6 +2,7 @@
 use Rattle.std.specs.Prelude.{ℕ, ◌≤◌, List, [], ◌∷◌, Bool, ◌||◌, ◌==◌, nat_eq, codes, not, length, drop, Option, Some, None, if◌then◌else◌}
 use Rattle.std.specs.List.{slice_split, take_while, prefix_len, list_all, starts_with}
 use Rattle.std.specs.Str.{is_utf8, bytes_eq}
+use Rattle.script_reader.specs.declared.line.Line.{Line}
 use Rattle.script_reader.specs.declared.why.Why as why
 
 -- A line feed.
@@ -61,9 +62,13 @@ is_in_number c = not (is_blank c)
 abbrev pub statement_in : List ℕ → Said
 statement_in bytes = spoken (session_of (take_while is_in_number bytes)) (past is_gap (past is_in_number bytes))
 
--- What a piece says: it has to be UTF-8, and to be blank, a remark, or a session number with a text.
-abbrev pub said : List ℕ → Said
-said piece =
+-- What a piece says by itself: it has to be UTF-8, and to be blank, a remark, or a session number with a text.
+abbrev pub said_alone : List ℕ → Said
+said_alone piece =
     if not (is_utf8 piece) then bad why.TheVariants.Utf8
     else if list_all is_blank piece || is_remark piece then nothing
     else statement_in (past is_gap piece)
+
+-- What a piece says, with its number and the lines above it: neither matters yet.
+abbrev pub said : ℕ → List Line → List ℕ → Said
+said number above piece = said_alone piece

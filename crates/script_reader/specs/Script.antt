@@ -1,6 +1,7 @@
--- The script that bytes are, or the fault for which they are none.
-use Rattle.std.specs.Prelude.{◌≡◌, ℕ, suc, ◌+◌, ◌-◌, ◌≤◌, List, [], ◌∷◌, ◌++◌, Bool, ◌==◌, length, take, map, reverse, position, count_by, Option, Some, None, Result, Ok, Err, nat_lt, if◌then◌else◌, slice_get, option_map, option_to_list}
-use Rattle.script_reader.specs.Pieces.{Said, nothing, statement, bad, said, pieces_of, IsSession}
+-- Which lines are a script, which bytes it is the script of, and which fault other bytes have, with no word on how either is found.
+use Rattle.std.specs.Prelude.{◌≡◌, ◌↔◌, ℕ, ◌+◌, ◌<◌, ◌≤◌, List, [], ◌∷◌, ◌++◌, Bool, ◌==◌, length, take, count_by, Some, slice_get}
+use Rattle.std.specs.List.{Contains}
+use Rattle.script_reader.specs.Pieces.{nothing, statement, bad, said, pieces_of, IsSession}
 use Rattle.script_reader.specs.declared.line.Line.{Line}
 use Rattle.script_reader.specs.declared.script_fault.ScriptFault.{ScriptFault}
 use Rattle.script_reader.specs.declared.why.Why as why
@@ -9,46 +10,55 @@ use Rattle.script_reader.specs.declared.why.Why as why
 abbrev pub most_script_bytes : ℕ
 most_script_bytes = 67108864
 
--- The first piece that is bad, with its number; the pieces are numbered on from the number given.
-abbrev pub first_fault : ℕ → List Said → Option ScriptFault
-first_fault number [] = None
-first_fault number (nothing ∷ more) = first_fault (number + 1) more
-first_fault number (statement session text ∷ more) = first_fault (number + 1) more
-first_fault number (bad why ∷ more) = Some (record { line = number; why = why })
+-- The session says the line.
+abbrev pub is_said_by : ℕ → Line → Bool
+is_said_by session line = line.session == session
 
--- The line is of the session.
-abbrev pub is_of : ℕ → Line → Bool
-is_of session line = line.session == session
+-- The line at a position has its place: so many lines of its session stand up to it, itself counted.
+abbrev pub HasPlace : List Line → ℕ → Line → Type 0
+HasPlace lines at line = line.place ≡ count_by (is_said_by line.session) (take (at + 1) lines)
 
--- The position of the last line of a session: the first of its lines, counted from the end.
-abbrev pub last_of : ℕ → List Line → Option ℕ
-last_of session lines = option_map (λ behind. length lines - suc behind) (position (is_of session) (reverse lines))
+-- A line of the session stands at the upper position, above the lower one.
+pub record StandsAbove (lines : List Line) (session upper lower : ℕ) : Type 0 where
+  pub line : Line
+  pub stands : slice_get lines upper ≡ Some line
+  pub said_by : line.session ≡ session
+  pub above : upper < lower
 
--- The line that a statement makes behind the lines before it: its place counts the lines of its session, and it follows the last of these.
-abbrev pub line_behind : List Line → ℕ → List ℕ → Line
-line_behind before session text =
-    record { session = session; place = count_by (is_of session) before + 1; follows = option_to_list (last_of session before); text = text }
+-- The line at the upper position is the last of the session above the lower one.
+pub record IsLastAbove (lines : List Line) (session upper lower : ℕ) : Type 0 where
+  pub stands : StandsAbove lines session upper lower
+  pub last : (other : ℕ) → StandsAbove lines session other lower → other ≤ upper
 
--- The lines that the pieces make, behind the lines before them.
-abbrev pub lines_behind : List Line → List Said → List Line
-lines_behind before [] = before
-lines_behind before (nothing ∷ more) = lines_behind before more
-lines_behind before (statement session text ∷ more) = lines_behind (before ++ line_behind before session text ∷ []) more
-lines_behind before (bad why ∷ more) = lines_behind before more
+-- The line at a position follows the last line of its session above it, if there is one, and no other. The positions of those that it follows ascend.
+pub record FollowsItsSession (lines : List Line) (at : ℕ) (line : Line) : Type 0 where
+  pub whom : (upper : ℕ) → Contains line.follows upper ↔ IsLastAbove lines line.session upper at
+  pub ascending : (i j upper lower : ℕ) → i < j → slice_get line.follows i ≡ Some upper → slice_get line.follows j ≡ Some lower → upper < lower
 
--- The lines, or the fault that there is.
-abbrev pub unless_fault : Option ScriptFault → List Line → Result (List Line) ScriptFault
-unless_fault None lines = Ok lines
-unless_fault (Some fault) lines = Err fault
-
--- The script that bytes are, or their one fault: too many bytes, else the first bad piece.
-abbrev pub script_of : List ℕ → Result (List Line) ScriptFault
-script_of bytes =
-    if nat_lt most_script_bytes (length bytes) then Err (record { line = 0; why = why.TheVariants.Size })
-    else unless_fault (first_fault 1 (map said (pieces_of bytes))) (lines_behind [] (map said (pieces_of bytes)))
-
--- The rules that the lines of a script keep: each is the line that its statement makes behind those before it, by a session that there is, and there are at most as many as a script may have bytes.
+-- The rules that the lines of a script keep: the session of each exists, each has its place in it and follows the last one of it, and there are at most as many as a script may have bytes.
 pub record IsScript (lines : List Line) : Type 0 where
-  pub behind : (k : ℕ) (line : Line) → slice_get lines k ≡ Some line → line ≡ line_behind (take k lines) line.session line.text
-  pub known : (k : ℕ) (line : Line) → slice_get lines k ≡ Some line → IsSession line.session
+  pub known : (at : ℕ) (line : Line) → slice_get lines at ≡ Some line → IsSession line.session
+  pub placed : (at : ℕ) (line : Line) → slice_get lines at ≡ Some line → HasPlace lines at line
+  pub following : (at : ℕ) (line : Line) → slice_get lines at ≡ Some line → FollowsItsSession lines at line
   pub few : length lines ≤ most_script_bytes
+
+-- The pieces make the lines: numbered on from a number, with the lines above them, none is bad, and each that holds a statement is the next line, with its session and its text.
+pub data MakeLines : ℕ → List Line → List (List ℕ) → List Line → Type 0 where
+  none_left : {number : ℕ} {above : List Line} → MakeLines number above [] []
+  no_line : {number : ℕ} {above lines : List Line} {piece : List ℕ} {pieces : List (List ℕ)} →
+      said number above piece ≡ nothing → MakeLines (number + 1) above pieces lines → MakeLines number above (piece ∷ pieces) lines
+  one_line : {number : ℕ} {above lines : List Line} {piece : List ℕ} {pieces : List (List ℕ)} {line : Line} →
+      said number above piece ≡ statement line.session line.text → MakeLines (number + 1) (above ++ line ∷ []) pieces lines → MakeLines number above (piece ∷ pieces) (line ∷ lines)
+
+-- The bytes are the script of these lines: there are not too many, the pieces make the lines, and these keep the rules of a script.
+pub record IsScriptOf (bytes : List ℕ) (lines : List Line) : Type 0 where
+  pub short : length bytes ≤ most_script_bytes
+  pub made : MakeLines 1 [] (pieces_of bytes) lines
+  pub keeps : IsScript lines
+
+-- The bytes are no script, for this fault: there are too many; or the pieces in front make lines that keep the rules, and below these the piece of its number is bad for its reason.
+pub data HasFault (bytes : List ℕ) : ScriptFault → Type 0 where
+  too_many : most_script_bytes < length bytes → HasFault bytes (record { line = 0; why = why.TheVariants.Size })
+  bad_piece : (front behind : List (List ℕ)) (piece : List ℕ) (above : List Line) (reason : why.Why) → length bytes ≤ most_script_bytes →
+      pieces_of bytes ≡ front ++ piece ∷ behind → MakeLines 1 [] front above → IsScript above → said (length front + 1) above piece ≡ bad reason →
+      HasFault bytes (record { line = length front + 1; why = reason })

@@ -32,7 +32,7 @@ impl Model for Draft {
 }
 
 impl Draft {
-    ghost use Rattle.script_reader.specs.Script.{line_behind};
+    ghost use Rattle.script_reader.specs.Reader.{line_behind};
 
     pub(crate) fn new(alloc: Global) -> Draft
         ensures exact { result ≡ [] }

@@ -1,6 +1,6 @@
 ghost use Rattle.std.specs.Prelude.{◌≡◌};
 ghost use Rattle.std.specs.List.{list_all, prefix_len};
-ghost use Rattle.script_reader.specs.Pieces.{is_blank, is_gap, is_in_number, is_remark, past, said, session_of, statement_in};
+ghost use Rattle.script_reader.specs.Pieces.{is_blank, is_gap, is_in_number, is_remark, past, said_alone, session_of, statement_in};
 ghost use Rattle.script_reader.specs.Told.{told, said_by};
 
 use crate::statement::Statement;
@@ -9,7 +9,7 @@ use crate::why::Why;
 /// What a piece of a script says; nothing where it is blank or a remark.
 #[tactic(auto, using(crate::proofs::Saying::said_bad, crate::proofs::Saying::said_nothing, crate::proofs::Saying::said_statement))]
 pub(crate) fn read_piece(piece: &[u8]) -> Result<Option<Statement<'_>>, Why>
-    ensures exact { told result ≡ said piece.now }
+    ensures exact { told result ≡ said_alone piece.now }
 {
     let Ok(text) = str::from_utf8(piece) else {
         return Err(Why::Utf8);

@@ -1,5 +1,5 @@
 ghost use Rattle.std.specs.Prelude.{◌≡◌, Ok, Err, IfOk, IfErr};
-ghost use Rattle.script_reader.specs.Script.{script_of};
+ghost use Rattle.script_reader.specs.Reader.{script_of};
 ghost use Rattle.script_reader.specs.declared.script_fault.ScriptFault.{ScriptFault};
 
 use crate::draft::Draft;

@@ -8,7 +8,8 @@ use Rattle.sinew_io.specs.Count.{HasCause, Rose}
 use Rattle.sinew_io.specs.Whole.{WritesAll, IsFailure}
 use Rattle.sinew_io.specs.declared.written.Written.{Written}
 use Rattle.sinew_io.specs.declared.written.Written.TheVariants as written
-use Rattle.script_reader.specs.Script.{script_of, most_script_bytes}
+use Rattle.script_reader.specs.Reader.{script_of}
+use Rattle.script_reader.specs.Script.{most_script_bytes}
 use Rattle.script_reader.specs.declared.line.Line.{Line}
 use Rattle.script_reader.specs.declared.script_fault.ScriptFault.{ScriptFault}
 use Rattle.script_reader.specs.declared.why.Why as why

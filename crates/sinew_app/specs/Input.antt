@@ -1,7 +1,7 @@
 -- What a reading of the input gives.
 use Rattle.std.specs.Prelude.{◌≡◌, ℕ, List, Option, Ok, Err}
 use Rattle.sinew_io.specs.Told.{Gave, NothingLeft}
-use Rattle.script_reader.specs.Script.{script_of}
+use Rattle.script_reader.specs.Reader.{script_of}
 use Rattle.script_reader.specs.declared.line.Line.{Line}
 use Rattle.script_reader.specs.declared.script_fault.ScriptFault.{ScriptFault}
 use Rattle.sinew_app.specs.Outcome.{WasRead}

@@ -1,7 +1,8 @@
 -- What a run from a source to a sink leaves, for each status.
 use Rattle.std.specs.Prelude.{◌≡◌, ℕ, ◌+◌, ◌≤◌, ◌⊎◌, List, [], length, take, Option, Result, Ok, Err}
 use Rattle.sinew_io.specs.Told.{Gave, Took, NothingLeft}
-use Rattle.script_reader.specs.Script.{script_of, most_script_bytes}
+use Rattle.script_reader.specs.Reader.{script_of}
+use Rattle.script_reader.specs.Script.{most_script_bytes}
 use Rattle.script_reader.specs.declared.line.Line.{Line}
 use Rattle.script_reader.specs.declared.script_fault.ScriptFault.{ScriptFault}
 use Rattle.commit_core.specs.Commits.{texts_of}

@@ -1,7 +1,7 @@
 -- What a run from a text in memory leaves, where no device can fail.
 use Rattle.std.specs.Prelude.{◌≡◌, ℕ, List, [], Option, Some, Err}
 use Rattle.sinew_io.specs.Told.{Took}
-use Rattle.script_reader.specs.Script.{script_of}
+use Rattle.script_reader.specs.Reader.{script_of}
 use Rattle.script_reader.specs.declared.line.Line.{Line}
 use Rattle.script_reader.specs.declared.script_fault.ScriptFault.{ScriptFault}
 use Rattle.commit_core.specs.declared.entry.Entry.{Entry}

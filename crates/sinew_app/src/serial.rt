@@ -1,7 +1,8 @@
 ghost use Rattle.std.specs.Prelude.{◌≡◌, ◌≢◌, ◌⊎◌, ◌+◌, [], List, ℕ, Some, Ok, Err};
 ghost use Rattle.sinew_io.specs.Count.{HasCause, Rose};
 ghost use Rattle.sinew_io.specs.Whole.{GaveAtMost};
-ghost use Rattle.script_reader.specs.Script.{script_of, most_script_bytes};
+ghost use Rattle.script_reader.specs.Reader.{script_of};
+ghost use Rattle.script_reader.specs.Script.{most_script_bytes};
 ghost use Rattle.script_reader.specs.declared.script_fault.ScriptFault.{ScriptFault};
 ghost use Rattle.sinew_app.specs.Outcome.{IsDone, IsRefused, IsBroken, IsUnwritten, IsDecided};
 

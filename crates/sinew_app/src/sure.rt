@@ -1,7 +1,8 @@
 ghost use Rattle.std.specs.Prelude.{◌≡◌, ◌+◌, [], Some};
 ghost use Rattle.sinew_io.specs.Kept.{told_bytes};
 ghost use Rattle.sinew_io.specs.Whole.{GaveAtMost};
-ghost use Rattle.script_reader.specs.Script.{script_of, most_script_bytes};
+ghost use Rattle.script_reader.specs.Reader.{script_of};
+ghost use Rattle.script_reader.specs.Script.{most_script_bytes};
 ghost use Rattle.sinew_app.specs.Outcome.{IsUnwritten, IsDecided};
 ghost use Rattle.sinew_app.specs.Sure.{PrintsRun, PrintsRefusal};
 

@@ -2,7 +2,8 @@
 use Rattle.std.proofs.Common.{◌≡◌, ◌≢◌, ℕ, ◌+◌, ◌≤◌, List, [], ◌∷◌, ◌++◌, length, take, drop, Option, Some, None, Result, Ok, Err, ◌⊎◌, inl, inr, refl, sym, ap, ◌∙◌, subst, arith}
 use Rattle.std.proofs.lemmas.List.{append-nil, length-append, length-take-le, append_assoc, take-append-drop}
 use Rattle.sinew_io.specs.Told.{Took}
-use Rattle.script_reader.specs.Script.{script_of, most_script_bytes}
+use Rattle.script_reader.specs.Reader.{script_of}
+use Rattle.script_reader.specs.Script.{most_script_bytes}
 use Rattle.script_reader.specs.declared.line.Line.{Line}
 use Rattle.script_reader.specs.declared.script_fault.ScriptFault.{ScriptFault}
 use Rattle.commit_core.specs.Commits.{texts_of}

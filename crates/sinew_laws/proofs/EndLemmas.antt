@@ -1,6 +1,6 @@
 -- How a run ends, and how no other run of its input does.
 use Rattle.std.proofs.Common.{◌≡◌, ◌≢◌, ℕ, List, Option, Some, Err, ◌⊎◌, ⊎_elim, sym, ap, ◌∙◌, subst}
-use Rattle.script_reader.specs.Script.{script_of}
+use Rattle.script_reader.specs.Reader.{script_of}
 use Rattle.script_reader.specs.declared.line.Line.{Line}
 use Rattle.script_reader.specs.declared.script_fault.ScriptFault.{ScriptFault}
 use Rattle.commit_core.specs.Commits.{texts_of}

@@ -3,10 +3,10 @@ use Rattle.std.proofs.Common.{◌≡◌, ℕ, zero, suc, ◌+◌, ◌<◌, ◌�
 use Rattle.std.specs.Prelude.{slice_get, option_to_list, if◌then◌else◌}
 use Rattle.std.proofs.lemmas.Bool.{cases_eq, eq-eqb, eqb-true, false≢true}
 use Rattle.std.proofs.lemmas.List.{length-take-le}
-use Rattle.std.proofs.lemmas.Option.{slice_get_within, same_Some}
-use Rattle.script_reader.specs.Script.{IsScript, is_of, last_of}
+use Rattle.std.proofs.lemmas.Option.{slice_get_within, slice_get_read, same_Some}
+use Rattle.script_reader.specs.Script.{IsScript, IsLastAbove}
 use Rattle.script_reader.specs.declared.line.Line.{Line}
-use Rattle.script_reader.proofs.Lasts.{last_of_push}
+use Rattle.script_reader.proofs.Behind.{last_above}
 use Rattle.commit_core.specs.Replies.{reply_at}
 use Rattle.commit_core.specs.declared.reply.Reply.{Reply}
 use Rattle.sinew_app.specs.Run.{Run, told_by_line, IsLegal}
@@ -34,78 +34,21 @@ there [] k l = absurd (omega arith)
 there (x ∷ xs) zero l = (x, refl)
 there (x ∷ xs) (suc k) l = there xs k (omega arith)
 
-take_suc : {A : Type 0} (xs : List A) (k : ℕ) (x : A) → slice_get xs k ≡ Some x → take (suc k) xs ≡ take k xs ++ x ∷ []
-take_suc [] k x e = absurd (cc)
-take_suc {A} (y ∷ xs) zero x e = ap (λ (z : A). z ∷ []) (same_Some y x e)
-take_suc {A} (y ∷ xs) (suc k) x e = ap (λ (front : List A). y ∷ front) (take_suc xs k x e)
-
--- The last line of a session among the first so many lines stands, and not above a line of that session that is among them.
-record LastStands (session : ℕ) (lines : List Line) (j n : ℕ) : Type 0 where
-  place : ℕ
-  line : Line
-  last : last_of session (take n lines) ≡ Some place
-  behind : j ≤ place
-  above : place < n
-  stands : slice_get lines place ≡ Some line
-  own : line.session ≡ session
-
-last_step : (session : ℕ) (lines : List Line) (j n : ℕ) (upper next : Line) → slice_get lines j ≡ Some upper → upper.session ≡ session → slice_get lines n ≡ Some next → j < suc n →
-    (j < n → LastStands session lines j n) → LastStands session lines j (suc n)
-last_step session lines j n upper next at_j own at_n within before = by (is_of session next) refl where
-  length-front : length (take n lines) ≡ n
-  length-front = length-take-le n lines (omega (arith, slice_get_within lines n next at_n))
-
-  pushed : last_of session (take (suc n) lines) ≡ (if is_of session next then Some (length (take n lines)) else last_of session (take n lines))
-  pushed = ap (λ (front : List Line). last_of session front) (take_suc lines n next at_n) ∙ last_of_push session (take n lines) next
-
-  chosen : (b : Bool) → is_of session next ≡ b → last_of session (take (suc n) lines) ≡ (if b then Some (length (take n lines)) else last_of session (take n lines))
-  chosen b e = pushed ∙ ap (λ (c : Bool). if c then Some (length (take n lines)) else last_of session (take n lines)) e
-
-  -- the line at j passes the test
-  apart : is_of session next ≡ false → j ≡ n → ⊥
-  apart other same =
-      let here : upper ≡ next = same_Some upper next (sym at_j ∙ (ap (λ (k : ℕ). slice_get lines k) same ∙ at_n)) in
-      let passes : is_of session next ≡ true = eq-eqb next.session session (sym (ap (λ (l : Line). l.session) here) ∙ own) in
-      false≢true (sym other ∙ passes)
-
-  by : (b : Bool) → is_of session next ≡ b → LastStands session lines j (suc n)
-  by true passes =
-      record {
-        place = n;
-        line = next;
-        last = chosen true passes ∙ ap Some length-front;
-        behind = omega (arith, within);
-        above = omega arith;
-        stands = at_n;
-        own = eqb-true next.session session passes;
-      }
-  by false other =
-      let found : LastStands session lines j n = before (⊎_elim (λ same. absurd (apart other same)) (λ differ. omega (arith, within, differ)) (cases_eq j n)) in
-      record {
-        place = found.place;
-        line = found.line;
-        last = chosen false other ∙ found.last;
-        behind = found.behind;
-        above = omega (arith, found.above);
-        stands = found.stands;
-        own = found.own;
-      }
-
-last_stands : (session : ℕ) (lines : List Line) (j : ℕ) (upper : Line) → slice_get lines j ≡ Some upper → upper.session ≡ session → (n : ℕ) → j < n → n ≤ length lines → LastStands session lines j n
-last_stands session lines j upper at_j own zero above within = absurd (omega (arith, above))
-last_stands session lines j upper at_j own (suc n) above within =
-    let next = there lines n (omega (arith, within)) in
-    last_step session lines j n upper next.0 at_j own next.1 above (λ before. last_stands session lines j upper at_j own n before (omega (arith, within)))
+-- A line with others of its session above it follows the last of these.
+follows_last : (lines : List Line) → IsScript lines → (j k : ℕ) (upper lower : Line) → j < k → slice_get lines j ≡ Some upper → slice_get lines k ≡ Some lower → upper.session ≡ lower.session →
+    (last : ℕ) × IsLastAbove lines lower.session last k
+follows_last lines rules j k upper lower above at_j at_k same = ⊎_elim
+    (λ found. found)
+    (λ none. absurd (none j (record { line = upper; stands = at_j; said_by = same; above = above })))
+    (last_above lines lower.session k (omega (arith, slice_get_within lines k lower at_k)))
 
 module _ (lines : List Line) (rules : IsScript lines) (run : Run) (legal : IsLegal lines run) where
   -- A line of a session has at least the number of the last line of that session above it.
-  last_before : (j k : ℕ) (lower : Line) (after : Reply) (found : LastStands lower.session lines j k) (reply : Reply) → slice_get lines k ≡ Some lower →
-      slice_get run.answers found.place ≡ Some reply → slice_get run.answers k ≡ Some after → reply.at ≤ after.at
-  last_before j k lower after found reply at_k told told-after =
-      let follows : lower.follows ≡ option_to_list (last_of lower.session (take k lines)) = ap (λ (l : Line). l.follows) (rules.behind k lower at_k) in
-      let first : slice_get lower.follows 0 ≡ Some found.place =
-      ap (λ (list : List ℕ). slice_get list 0) (follows ∙ ap (λ o. option_to_list o) found.last) in
-      legal.later found.place k 0 lower reply after at_k first told told-after
+  last_before : (last k : ℕ) (lower : Line) (before after : Reply) → IsLastAbove lines lower.session last k → slice_get lines k ≡ Some lower →
+      slice_get run.answers last ≡ Some before → slice_get run.answers k ≡ Some after → before.at ≤ after.at
+  last_before last k lower before after is at_k told told-after =
+      let followed = ((rules.following k lower at_k).whom last).1 is in
+      legal.later last k followed.0 lower before after at_k (slice_get_read lower.follows (length lower.follows) followed.0 last refl followed.1 (sym followed.2)) told told-after
 
   -- Two lines of one session, the lower one among the first so many lines.
   in_session : (n j k : ℕ) (upper lower : Line) (before after : Reply) → k < n → j ≤ k → slice_get lines j ≡ Some upper → slice_get lines k ≡ Some lower → upper.session ≡ lower.session →
@@ -117,11 +60,13 @@ module _ (lines : List Line) (rules : IsScript lines) (run : Run) (legal : IsLeg
       let alike : before ≡ after = same_Some before after (sym told-before ∙ (ap (λ (p : ℕ). slice_get run.answers p) one ∙ told-after)) in
       omega (arith, ap (λ (r : Reply). r.at) alike))
       (λ differ.
-      let found = last_stands lower.session lines j upper at_j same k (omega (arith, order, differ)) (omega (arith, slice_get_within lines k lower at_k)) in
-      let between = there run.answers found.place (omega (arith, legal.answered, slice_get_within lines found.place found.line found.stands)) in
+      let last = follows_last lines rules j k upper lower (omega (arith, order, differ)) at_j at_k same in
+      let stands = last.1.stands in
+      let between = there run.answers last.0 (omega (arith, legal.answered, slice_get_within lines last.0 stands.line stands.stands)) in
       let above : before.at ≤ between.0.at =
-      in_session n j found.place upper found.line before between.0 (omega (arith, few, found.above)) found.behind at_j found.stands (same ∙ sym found.own) told-before between.1 in
-      omega (arith, above, last_before j k lower after found between.0 at_k between.1 told-after))
+      in_session n j last.0 upper stands.line before between.0 (omega (arith, few, stands.above))
+      (last.1.last j (record { line = upper; stands = at_j; said_by = same; above = omega (arith, order, differ) })) at_j stands.stands (same ∙ sym stands.said_by) told-before between.1 in
+      omega (arith, above, last_before last.0 k lower between.0 after last.1 at_k between.1 told-after))
       (cases_eq j k)
 
   pub never_falls : (j k : ℕ) (upper lower : Line) (before after : Reply) → j ≤ k → slice_get lines j ≡ Some upper → slice_get lines k ≡ Some lower → upper.session ≡ lower.session →

@@ -13,7 +13,7 @@ use Rattle.doc_values.specs.declared.kind.Kind.{Kind}
 use Rattle.doc_values.specs.declared.value.Value.{Value}
 use Rattle.doc_flatten.specs.Documents.{IsWithinLimits}
 use Rattle.commit_core.specs.State.{Row, Collection, State, pair_of, is_named, collection_at, documents_of_rows}
-use Rattle.commit_core.specs.Write.{same_pair, with_pair, with_fields}
+use Rattle.commit_core.specs.Write.{same_pair, pairs_with, with_fields}
 use Rattle.commit_core.proofs.PairsOnce.{same_pair-self}
 use Rattle.commit_core.proofs.PairsHeld.{same_pairs}
 use Rattle.sinew_laws.specs.States.{IsAMap, KeepsItsLimits, HasOnePlaceForAPair, WhatStandsIsADocument, HasPairsOfAllFields}
@@ -68,7 +68,7 @@ has_one_place collection i pair h e =
     cond-true (nat_lt n (length pairs)) (Some n) None within ∙ ap (λ (k : ℕ). Some k) first
 
 -- A pair that is among others adds none to them.
-with_pair-same : (pairs : List (List ℕ × Kind)) (pair : List ℕ × Kind) → Contains pairs pair → with_pair pairs pair ≡ pairs
+with_pair-same : (pairs : List (List ℕ × Kind)) (pair : List ℕ × Kind) → Contains pairs pair → pairs_with pairs pair ≡ pairs
 with_pair-same pairs pair h =
     cond-true (list_any (same_pair pair) pairs) _ _ (list_any_at (same_pair pair) pairs h.0 pair h.1 (ap (same_pair pair) h.2 ∙ same_pair-self pair))
 

@@ -16,7 +16,7 @@ use Rattle.sql_grammar.specs.Languages.{Language, Listed, Optional, absent, pres
 use Rattle.sql_grammar.specs.Expression.{Expression}
 use Rattle.sql_grammar.specs.Query as q
 use Rattle.sql_grammar.specs.Query.{AnItem, AKey, AtMost, Keys, Tail, ATail, keys_of, question, Question}
-use Rattle.type_rules.specs.Places.{is_alias, lone_name, term_named, key_term, Place, free, condition}
+use Rattle.type_rules.specs.Places.{has_alias, lone_name, term_named, key_term, PlacedTerm, free, condition}
 use Rattle.type_rules.specs.Written.{is_written, IsQuestion}
 use Rattle.spelled_rules.proofs.WrittenTerms.{IsTerm}
 use Rattle.spelled_rules.proofs.WrittenChains.{AreSmall, front_small, back_small, chain_holds}
@@ -29,7 +29,7 @@ IsItem i = IsTerm i.expr
 abbrev IsKey : Key → Type 0
 IsKey k = IsTerm k.expr
 
-abbrev IsPlace : Place → Type 0
+abbrev IsPlace : PlacedTerm → Type 0
 IsPlace p = IsTerm p.term
 
 all_listed : {A : Type 0} (Part : Language A) (P : A → Type 0) → ((x : A) (all : List Terminal) → AreSmall all → Part x all → P x) → (xs : List A) (all : List Terminal) → AreSmall all → AtMost (Listed Part) xs all → EachIs P xs
@@ -54,7 +54,7 @@ the_keys ks all small (present {x = x} p) = by_keys x _ small.1 p
 
 term_of_alias : (items : List Item) (name : List ℕ) → EachIs IsItem items → IfSome (term_named items name) IsTerm
 term_of_alias [] name hs = tt
-term_of_alias (i ∷ is) name hs = cond_both (is_alias name i) (Some i.expr) (term_named is name) (λ o. IfSome o IsTerm) (λ e. hs.0) (λ e. term_of_alias is name hs.1)
+term_of_alias (i ∷ is) name hs = cond_both (has_alias name i) (Some i.expr) (term_named is name) (λ o. IfSome o IsTerm) (λ e. hs.0) (λ e. term_of_alias is name hs.1)
 
 taken_or : (o : Option Term) (t : Term) → IfSome o IsTerm → IsTerm t → IsTerm (unwrap_or o t)
 taken_or None t h k = k
@@ -64,7 +64,7 @@ chosen : (items : List Item) (name : Option (List ℕ)) (t : Term) → EachIs Is
 chosen items None t hs h = h
 chosen items (Some name) t hs h = taken_or (term_named items name) t (term_of_alias items name hs) h
 
-places_append : (ps qs : List Place) → EachIs IsPlace ps → EachIs IsPlace qs → EachIs IsPlace (ps ++ qs)
+places_append : (ps qs : List PlacedTerm) → EachIs IsPlace ps → EachIs IsPlace qs → EachIs IsPlace (ps ++ qs)
 places_append [] qs hs ks = ks
 places_append (p ∷ ps) qs hs ks = (hs.0, places_append ps qs hs.1 ks)
 
@@ -80,7 +80,7 @@ key_places : (items : List Item) (ks : List Key) → EachIs IsItem items → Eac
 key_places items [] hs ls = tt
 key_places items (k ∷ ks) hs ls = (chosen items (lone_name k.expr) k.expr hs ls.0, key_places items ks hs ls.1)
 
-places_pass : (ps : List Place) → EachIs IsPlace ps → list_all (λ p. is_written p.term) ps ≡ true
+places_pass : (ps : List PlacedTerm) → EachIs IsPlace ps → list_all (λ p. is_written p.term) ps ≡ true
 places_pass [] hs = refl
 places_pass (p ∷ ps) hs = and_from (is_written p.term) (list_all (λ p. is_written p.term) ps) hs.0 (places_pass ps hs.1)
 

@@ -10,7 +10,7 @@ use Rattle.std.specs.Cmp.Lexicographic.{nat_list_eq_equiv, bytes_decides}
 use Rattle.indexmap.specs.IndexMap.{IndexMap, get_by, UpdatesBy}
 use Rattle.sql_tree.specs.declared.item.Item.{Item}
 use Rattle.sql_tree.specs.declared.term.Term.{Term}
-use Rattle.type_rules.specs.Places.{is_alias, term_named}
+use Rattle.type_rules.specs.Places.{has_alias, term_named}
 use Rattle.type_rules.specs.Names.{are_different, alias_list, item_aliases}
 use Rattle.type_rules.specs.Aliased.{HasTerms}
 
@@ -25,7 +25,7 @@ either_if false t r s u h = h
 -- The term of a name, where one more item stands behind.
 named_behind : (is : List Item) (i : Item) (name : List ℕ) → term_named (is ++ i ∷ []) name ≡ either (term_named is name) (term_named (i ∷ []) name)
 named_behind [] i name = refl
-named_behind (x ∷ is) i name = either_if (is_alias name x) x.expr (term_named (is ++ i ∷ []) name) (term_named is name) (term_named (i ∷ []) name) (named_behind is i name)
+named_behind (x ∷ is) i name = either_if (has_alias name x) x.expr (term_named (is ++ i ∷ []) name) (term_named is name) (term_named (i ∷ []) name) (named_behind is i name)
 
 some_if : (b : Bool) (t : Term) (r : Option Term) (c : Bool) → is_some r ≡ c → is_some (if b then Some t else r) ≡ (b || c)
 some_if true t r c h = refl

@@ -7,7 +7,7 @@ use Rattle.sql_tree.specs.declared.select.Select.{Select}
 use Rattle.sql_tree.specs.declared.term.Term.{Term}
 use Rattle.sql_eval.specs.declared.expr.Expr.{Expr}
 use Rattle.sql_eval.specs.Resolves.{AllResolve}
-use Rattle.type_rules.specs.Places.{Place, free, condition, item_terms, key_terms, places_of}
+use Rattle.type_rules.specs.Places.{PlacedTerm, free, condition, item_terms, key_terms, places_of}
 use Rattle.type_rules.specs.Names.{every_ref, is_bound}
 use Rattle.type_rules.specs.Uses.{Use, Reader, reader_of, place_uses}
 use Rattle.type_rules.specs.Plan.{ConditionResolves}
@@ -37,7 +37,7 @@ nil_behind : (xs : List Use) → xs ++ [] ≡ xs
 nil_behind [] = refl
 nil_behind (x ∷ xs) = ap (λ ys. x ∷ ys) (nil_behind xs)
 
-flat_append : (xs ys : List Place) → flat_map place_uses (xs ++ ys) ≡ flat_map place_uses xs ++ flat_map place_uses ys
+flat_append : (xs ys : List PlacedTerm) → flat_map place_uses (xs ++ ys) ≡ flat_map place_uses xs ++ flat_map place_uses ys
 flat_append [] ys = refl
 flat_append (x ∷ xs) ys = ap (λ us. place_uses x ++ us) (flat_append xs ys) ∙ append (place_uses x) (flat_map place_uses xs) (flat_map place_uses ys)
 
@@ -45,24 +45,24 @@ free_places : (ts : List Term) → flat_map place_uses (map free ts) ≡ flat_ma
 free_places [] = refl
 free_places (t ∷ ts) = ap (λ us. (reader_of t).uses None ++ us) (free_places ts)
 
-pub free_all : (f : Term → Bool) (ts : List Term) → list_all (λ (p : Place). f p.term) (map free ts) ≡ true → list_all (λ b. b) (map f ts) ≡ true
+pub free_all : (f : Term → Bool) (ts : List Term) → list_all (λ (p : PlacedTerm). f p.term) (map free ts) ≡ true → list_all (λ b. b) (map f ts) ≡ true
 free_all f [] h = refl
 free_all f (t ∷ ts) h = both (and_first (f t) _ h) (free_all f ts (and_second (f t) _ h))
 
 -- What holds of each term of a question holds of the items' terms, of the condition's and of the keys'.
-pub of_items : (f : Term → Bool) (s : Select) → list_all (λ (p : Place). f p.term) (places_of s) ≡ true → list_all (λ b. b) (map f (item_terms s)) ≡ true
+pub of_items : (f : Term → Bool) (s : Select) → list_all (λ (p : PlacedTerm). f p.term) (places_of s) ≡ true → list_all (λ b. b) (map f (item_terms s)) ≡ true
 of_items f s h =
-    let test : Place → Bool = λ p. f p.term in
+    let test : PlacedTerm → Bool = λ p. f p.term in
     free_all f (item_terms s) (front test (map free (item_terms s)) (condition s.test) (front test (map free (item_terms s) ++ condition s.test) (map free (key_terms s)) h))
 
-pub of_condition : (f : Term → Bool) (s : Select) → list_all (λ (p : Place). f p.term) (places_of s) ≡ true → list_all (λ (p : Place). f p.term) (condition s.test) ≡ true
+pub of_condition : (f : Term → Bool) (s : Select) → list_all (λ (p : PlacedTerm). f p.term) (places_of s) ≡ true → list_all (λ (p : PlacedTerm). f p.term) (condition s.test) ≡ true
 of_condition f s h =
-    let test : Place → Bool = λ p. f p.term in
+    let test : PlacedTerm → Bool = λ p. f p.term in
     back test (map free (item_terms s)) (condition s.test) (front test (map free (item_terms s) ++ condition s.test) (map free (key_terms s)) h)
 
-pub of_keys : (f : Term → Bool) (s : Select) → list_all (λ (p : Place). f p.term) (places_of s) ≡ true → list_all (λ b. b) (map f (key_terms s)) ≡ true
+pub of_keys : (f : Term → Bool) (s : Select) → list_all (λ (p : PlacedTerm). f p.term) (places_of s) ≡ true → list_all (λ b. b) (map f (key_terms s)) ≡ true
 of_keys f s h =
-    let test : Place → Bool = λ p. f p.term in
+    let test : PlacedTerm → Bool = λ p. f p.term in
     free_all f (key_terms s) (back test (map free (item_terms s) ++ condition s.test) (map free (key_terms s)) h)
 
 pub parts_made : {c d e x : List ColRef} (s : Select) (items : List Expr) (test : Option Expr) (keys : List Expr) → AreResolved c d (flat_map free_uses (map reader_of (item_terms s))) (λ _. None) (item_terms s) items
@@ -105,8 +105,8 @@ planned s c items test keys tables refs question kept parts descending tables_ar
     let alias = alias_of question.table in
     let scope_is : scope_of s ≡ alias ∷ [] = ap (map alias_of) question.tables in
     let names : names_hold s ≡ true = (rules_kept (names_hold s) (kinds_hold s) (widths_hold s) kept).0 in
-    let every : list_all (λ (p : Place). every_ref (is_bound (scope_of s)) p.term) (places_of s) ≡ true = and_second _ _ names in
-    let bound : places_bound_to s alias ≡ true = subst (λ scope. list_all (λ (p : Place). every_ref (is_bound scope) p.term) (places_of s) ≡ true) scope_is every in
+    let every : list_all (λ (p : PlacedTerm). every_ref (is_bound (scope_of s)) p.term) (places_of s) ≡ true = and_second _ _ names in
+    let bound : places_bound_to s alias ≡ true = subst (λ scope. list_all (λ (p : PlacedTerm). every_ref (is_bound scope) p.term) (places_of s) ≡ true) scope_is every in
     let all = parts.holds alias [] bound in
     record {
       tables = tables_are;

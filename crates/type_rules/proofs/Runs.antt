@@ -10,9 +10,9 @@ use Rattle.sql_eval.specs.declared.key_plan.KeyPlan.{KeyPlan}
 use Rattle.sql_eval.specs.declared.select_plan.SelectPlan.{SelectPlan}
 use Rattle.sql_eval.specs.Resolves.{AllResolve}
 use Rattle.sql_eval.specs.Widths.{width_of, is_plain}
-use Rattle.type_rules.specs.declared.type_fault.TypeFault.TheVariants.{Name, Wide}
-use Rattle.type_rules.specs.declared.type_fault.TypeFault.TheVariants as fault
-use Rattle.type_rules.specs.Places.{Place, free, condition, item_terms, key_terms, places_of, scope_of}
+use Rattle.type_rules.specs.declared.rule.Rule.TheVariants.{Name, Wide}
+use Rattle.type_rules.specs.declared.rule.Rule.TheVariants as rule
+use Rattle.type_rules.specs.Places.{PlacedTerm, free, condition, item_terms, key_terms, places_of, scope_of}
 use Rattle.type_rules.specs.Names.{names_hold}
 use Rattle.type_rules.specs.Kinds.{kinds_hold}
 use Rattle.type_rules.specs.Widths.{term_width, widths_hold}
@@ -25,7 +25,7 @@ use Rattle.type_rules.proofs.Noting.{and_first, and_second}
 use Rattle.type_rules.proofs.Running.{runs, all_run}
 
 -- Where no rule is broken, each of them is kept.
-pub rules_kept : (n k w : Bool) → (if n then (if k then (if w then None else Some Wide) else Some fault.Kind) else Some Name) ≡ None → (n ≡ true) × (w ≡ true)
+pub rules_kept : (n k w : Bool) → (if n then (if k then (if w then None else Some Wide) else Some rule.Kind) else Some Name) ≡ None → (n ≡ true) × (w ≡ true)
 rules_kept true true true h = (refl, refl)
 rules_kept true true false h = cc
 rules_kept true false w h = cc
@@ -34,15 +34,15 @@ rules_kept false k w h = cc
 both : {a b : Bool} → a ≡ true → b ≡ true → (a && b) ≡ true
 both h k = λ i. h i && k i
 
-pub front : (f : Place → Bool) (xs ys : List Place) → list_all f (xs ++ ys) ≡ true → list_all f xs ≡ true
+pub front : (f : PlacedTerm → Bool) (xs ys : List PlacedTerm) → list_all f (xs ++ ys) ≡ true → list_all f xs ≡ true
 front f [] ys h = refl
 front f (x ∷ xs) ys h = both (and_first (f x) _ h) (front f xs ys (and_second (f x) _ h))
 
-pub back : (f : Place → Bool) (xs ys : List Place) → list_all f (xs ++ ys) ≡ true → list_all f ys ≡ true
+pub back : (f : PlacedTerm → Bool) (xs ys : List PlacedTerm) → list_all f (xs ++ ys) ≡ true → list_all f ys ≡ true
 back f [] ys h = h
 back f (x ∷ xs) ys h = back f xs ys (and_second (f x) _ h)
 
-free_narrow : (tables : ℕ) (ts : List Term) → list_all (λ (p : Place). (term_width tables p.term).narrow) (map free ts) ≡ true → list_all (λ w. w.narrow) (map (term_width tables) ts) ≡ true
+free_narrow : (tables : ℕ) (ts : List Term) → list_all (λ (p : PlacedTerm). (term_width tables p.term).narrow) (map free ts) ≡ true → list_all (λ w. w.narrow) (map (term_width tables) ts) ≡ true
 free_narrow tables [] h = refl
 free_narrow tables (t ∷ ts) h = both (and_first (term_width tables t).narrow _ h) (free_narrow tables ts (and_second (term_width tables t).narrow _ h))
 
@@ -61,13 +61,13 @@ of_keys refs [] h = tt
 of_keys refs (k ∷ keys) h = (h.0, of_keys refs keys h.1)
 
 -- Terms whose places want nothing, and the expressions to which they resolve.
-free_computed : (scope : List (List ℕ)) (refs : List (List ColRef)) (tables : ℕ) (ts : List Term) (es : List Expr) → length refs ≡ tables → AllResolve scope refs (λ _. None) ts es → list_all (λ (p : Place). (term_width tables p.term).narrow) (map free ts) ≡ true
+free_computed : (scope : List (List ℕ)) (refs : List (List ColRef)) (tables : ℕ) (ts : List Term) (es : List Expr) → length refs ≡ tables → AllResolve scope refs (λ _. None) ts es → list_all (λ (p : PlacedTerm). (term_width tables p.term).narrow) (map free ts) ≡ true
     → list_all (λ b. b) (map has_numerals es) ≡ true → AllByRecursion (IsComputed refs) es
 free_computed scope refs tables ts es same all narrow numerals =
     let parts = all_run scope refs tables all in
     all_computed refs tables es same parts.plain parts.slots (parts.narrow numerals (free_narrow tables ts narrow))
 
-condition_computed : (scope : List (List ℕ)) (refs : List (List ColRef)) (tables : ℕ) (t : Option Term) (e : Option Expr) → length refs ≡ tables → ConditionResolves scope refs t e → list_all (λ (p : Place). (term_width tables p.term).narrow) (condition t) ≡ true
+condition_computed : (scope : List (List ℕ)) (refs : List (List ColRef)) (tables : ℕ) (t : Option Term) (e : Option Expr) → length refs ≡ tables → ConditionResolves scope refs t e → list_all (λ (p : PlacedTerm). (term_width tables p.term).narrow) (condition t) ≡ true
     → IfSome e (λ e. has_numerals e ≡ true) → IfSome e (IsComputed refs)
 condition_computed scope refs tables None None same r narrow numerals = tt
 condition_computed scope refs tables None (Some e) same r narrow numerals = absurd r
@@ -82,7 +82,7 @@ can_be_run s p question kept plan numerals =
     let scope = scope_of s in
     let one : length s.tables ≡ 1 = ap length question.tables in
     let same : length p.refs ≡ tables = ap length plan.refs ∙ sym one in
-    let narrow : Place → Bool = λ q. (term_width tables q.term).narrow in
+    let narrow : PlacedTerm → Bool = λ q. (term_width tables q.term).narrow in
     let all : list_all narrow (places_of s) ≡ true = (rules_kept (names_hold s) (kinds_hold s) (widths_hold s) kept).1 in
     let fronts = front narrow (map free (item_terms s) ++ condition s.test) (map free (key_terms s)) all in
     record {

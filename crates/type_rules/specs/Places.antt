@@ -35,33 +35,33 @@ abbrev pub lone_name : Term → Option (List ℕ)
 lone_name = fold-Term (Option (List ℕ)) (Unit {0}) lone_step (λ _. tt)
 
 -- Whether an item has the name as its alias.
-abbrev pub is_alias : List ℕ → Item → Bool
-is_alias name i = option_map_or (bytes_eq name) i.alias false
+abbrev pub has_alias : List ℕ → Item → Bool
+has_alias name i = option_map_or (bytes_eq name) i.alias false
 
 -- The term of the first item that has the name as its alias.
 abbrev pub term_named : List Item → List ℕ → Option Term
 term_named [] name = None
-term_named (i ∷ is) name = if is_alias name i then Some i.expr else term_named is name
+term_named (i ∷ is) name = if has_alias name i then Some i.expr else term_named is name
 
 -- The term of a key: that of the item for which it stands, or its own.
 abbrev pub key_term : List Item → Key → Term
 key_term items key = unwrap_or (option_and_then (term_named items) (lone_name key.expr)) key.expr
 
 -- A term, and the kind that its place wants, or none.
-pub record Place : Type 0 where
+pub record PlacedTerm : Type 0 where
   pub term : Term
   pub want : Option Kind
 
 -- A term in a place that wants a kind, or none.
-abbrev pub placed : Term → Option Kind → Place
+abbrev pub placed : Term → Option Kind → PlacedTerm
 placed t want = record { term = t; want = want }
 
 -- A term in a place that wants nothing.
-abbrev pub free : Term → Place
+abbrev pub free : Term → PlacedTerm
 free t = placed t None
 
 -- A condition, where there is one: its place wants a truth value.
-abbrev pub condition : Option Term → List Place
+abbrev pub condition : Option Term → List PlacedTerm
 condition None = []
 condition (Some t) = placed t (Some kind.Bool) ∷ []
 
@@ -74,5 +74,5 @@ abbrev pub key_terms : Select → List Term
 key_terms s = map (key_term s.items) s.keys
 
 -- The terms of the items, of the condition and of the keys of a question, in this order.
-abbrev pub places_of : Select → List Place
+abbrev pub places_of : Select → List PlacedTerm
 places_of s = (map free (item_terms s) ++ condition s.test) ++ map free (key_terms s)

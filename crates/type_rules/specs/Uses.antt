@@ -14,7 +14,7 @@ use Rattle.sql_tree.specs.declared.term.Term.{Term}
 use Rattle.sql_tree.specs.declared.term.Term.TheOpen.{Term-F, Addend-F}
 use Rattle.sql_tree.specs.declared.term.Term.TheFolds.{fold-Term, fold-Addend}
 use Rattle.sql_eval.specs.Kinds.{own_step, wanted_beside}
-use Rattle.type_rules.specs.Places.{Place, places_of}
+use Rattle.type_rules.specs.Places.{PlacedTerm, places_of}
 
 -- A reference where it stands, and the kind that is wanted of it there, or none.
 pub record Use : Type 0 where
@@ -82,7 +82,7 @@ abbrev pub addend_uses : Addend → List Use
 addend_uses = fold-Addend Reader (List Use) reader_step reader_addend
 
 -- The references of a term in its place.
-abbrev pub place_uses : Place → List Use
+abbrev pub place_uses : PlacedTerm → List Use
 place_uses p = (reader_of p.term).uses p.want
 
 -- All references of a question, in the order of its places.

@@ -1,10 +1,13 @@
-ghost use Rattle.std.specs.Prelude.{◌≡◌, true, false, ◌&&◌, List, [], ◌∷◌, ◌++◌, ◌⊎◌, OnOk, IfOk, IfErr};
+ghost use Rattle.std.specs.Prelude.{◌≡◌, true, false, ◌&&◌, List, [], ◌∷◌, ◌++◌, OnOk, IfOk, IfErr};
 ghost use Rattle.std.specs.Option.{option_copied};
 ghost use Rattle.sql_tree.specs.declared.item.Item.{Item as ItemOf};
 ghost use Rattle.type_rules.specs.Names.{are_different, item_aliases};
 ghost use Rattle.type_rules.specs.Places.{term_named};
 ghost use Rattle.type_rules.specs.Aliased.{HasTerms};
+ghost use Rattle.type_rules.specs.declared.rule.Rule.{Rule as RuleOf};
+ghost use Rattle.type_rules.specs.declared.rule.Rule.TheVariants.{Name as RuleName};
 
+use crate::rule::Rule;
 use crate::type_fault::TypeFault;
 use indexmap::IndexMap;
 use sql_tree::{Item, Term};
@@ -39,12 +42,12 @@ impl<'a> Aliases<'a> {
     pub(crate) fn of(alloc: Global, items: &'a [Item]) -> Result<Aliases<'a>, TypeFault>
         ensures ok { IfOk result (λ aliases. aliases ≡ items.now) }
         ensures different { OnOk result (are_different (item_aliases items.now) ≡ true) }
-        ensures err { IfErr result (λ fault. (fault ≡ TypeFault.Memory) ⊎ ((fault ≡ TypeFault.Name) × (are_different (item_aliases items.now) ≡ false))) }
+        ensures broken { IfErr result (λ fault. (rule : RuleOf) → fault ≡ TypeFault.Broken rule → (rule ≡ RuleName) × (are_different (item_aliases items.now) ≡ false)) }
     {
         let mut terms = IndexMap::new(alloc);
         for item in items {
             if !note(&mut terms, item)? {
-                return Err(TypeFault::Name);
+                return Err(TypeFault::Broken(Rule::Name));
             }
         }
         Ok(Aliases { items, terms })

@@ -16,6 +16,7 @@ mod plan_parts;
 mod planning;
 mod references;
 mod resolving;
+mod rule;
 mod rules;
 mod rules_kept;
 mod type_fault;
@@ -23,6 +24,7 @@ mod typed_statement;
 mod typing;
 mod widths;
 
+pub use rule::Rule;
 pub use type_fault::TypeFault;
 pub use typed_statement::Typed;
 pub use typing::typed;

@@ -7,26 +7,26 @@ ghost use Rattle.type_rules.specs.Widths.{widths_hold};
 ghost use Rattle.type_rules.specs.Fault.{question_fault};
 
 use crate::place::Place;
+use crate::rule::Rule;
 use crate::rules::{places_bound, places_fit, places_narrow};
-use crate::type_fault::TypeFault;
 use sql_tree::{Select, Table};
 
 // The first rule that a question breaks, if it breaks one. No two of its items have one alias.
-pub(crate) fn keep_rules(select: &Select, places: &[Place]) -> Result<(), TypeFault>
+pub(crate) fn keep_rules(select: &Select, places: &[Place]) -> Result<(), Rule>
     requires question { IsQuestion select.now }
     requires different { are_different (item_aliases select.now.items) ≡ true }
     requires places { map (λ p. placed p.term.now p.want) places.now ≡ places_of select.now }
     ensures ok { OnOk result (question_fault select.now ≡ None) }
-    ensures err { IfErr result (λ fault. question_fault select.now ≡ Some fault) }
+    ensures broken { IfErr result (λ rule. question_fault select.now ≡ Some rule) }
 {
     if !names_hold(select, places) {
-        return Err(TypeFault::Name);
+        return Err(Rule::Name);
     }
     if !kinds_hold(select, places) {
-        return Err(TypeFault::Kind);
+        return Err(Rule::Kind);
     }
     if !widths_hold(select, places) {
-        return Err(TypeFault::Wide);
+        return Err(Rule::Wide);
     }
     Ok(())
 }

@@ -1,8 +1,9 @@
-ghost use Rattle.std.specs.Prelude.{◌≡◌, ◌⊎◌, None, IfOk, IfErr};
+ghost use Rattle.std.specs.Prelude.{◌≡◌, Some, None, IfOk, IfErr};
 ghost use Rattle.type_rules.specs.Written.{IsWritten, IsQuestion};
 ghost use Rattle.type_rules.specs.Fault.{fault_of, question_fault};
 ghost use Rattle.type_rules.specs.Plan.{IsTypedOf, IsPlanOf};
 ghost use Rattle.type_rules.specs.Runnable.{CanBeRun};
+ghost use Rattle.type_rules.specs.declared.rule.Rule.{Rule};
 
 use crate::aliases::Aliases;
 use crate::place::places;
@@ -18,10 +19,7 @@ use std::alloc::Global;
 pub fn typed(alloc: Global, statement: &Statement) -> Result<Typed, TypeFault>
     requires written { IsWritten statement.now }
     ensures ok { IfOk result (λ plan. (fault_of statement.now ≡ None) × IsTypedOf statement.now plan) }
-    ensures name { result ≡ Err TypeFault.Name → fault_of statement.now ≡ Some TypeFault.Name }
-    ensures group { ¬ (result ≡ Err TypeFault.Group) }
-    ensures kind { result ≡ Err TypeFault.Kind → fault_of statement.now ≡ Some TypeFault.Kind }
-    ensures wide { result ≡ Err TypeFault.Wide → fault_of statement.now ≡ Some TypeFault.Wide }
+    ensures broken { IfErr result (λ fault. (rule : Rule) → fault ≡ TypeFault.Broken rule → fault_of statement.now ≡ Some rule) }
 {
     match statement {
         Statement::Load { collection, json } => Ok(Typed::Load {
@@ -37,7 +35,7 @@ pub fn typed(alloc: Global, statement: &Statement) -> Result<Typed, TypeFault>
 fn typed_select(alloc: Global, select: &Select) -> Result<SelectPlan, TypeFault>
     requires question { IsQuestion select.now }
     ensures ok { IfOk result (λ plan. (question_fault select.now ≡ None) × IsPlanOf select.now plan × CanBeRun plan) }
-    ensures err { IfErr result (λ fault. (fault ≡ TypeFault.Memory) ⊎ (question_fault select.now ≡ Some fault)) }
+    ensures broken { IfErr result (λ fault. (rule : Rule) → fault ≡ TypeFault.Broken rule → question_fault select.now ≡ Some rule) }
 {
     let aliases = Aliases::of(alloc, select.items.as_slice())?;
     let places = places(alloc, select, &aliases)?;

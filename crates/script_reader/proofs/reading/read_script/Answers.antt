@@ -1,13 +1,14 @@
-use Rattle.std.proofs.Common.{rules, ◌≡◌, ◌<◌, arith, sym, ◌∙◌, ap, subst, length, get_or, Some, Ok}
+use Rattle.std.proofs.Common.{rules, ◌≡◌, ◌<◌, arith, sym, ◌∙◌, ap, subst, length, get_or, Ok, Err}
 use Rattle.std.specs.List.{slice_split}
 use Rattle.std.proofs.lemmas.Iterator.Splits.{YieldsList-from_slice_split}
 use Rattle.std.proofs.lemmas.Iterator.Consumers.{YieldsList-turn, YieldsList-end}
 use Rattle.std.proofs.lemmas.List.{length_push}
 use borrow.Author.Tests.{tests}
 use Rattle.script_reader.specs.Pieces.{is_line_feed}
-use Rattle.script_reader.specs.Script.{script_of, IsScript}
-use Rattle.script_reader.proofs.Progress.{IsReading-nothing, IsReading-statement, fault_here, no_fault, all_lines, script_of_bad, script_of_good}
-use Rattle.script_reader.proofs.Rules.{rules_kept}
+use Rattle.script_reader.specs.Reader.{script_of}
+use Rattle.script_reader.specs.Script.{IsScript}
+use Rattle.script_reader.proofs.Progress.{IsReading-nothing, IsReading-statement, fault_here, all_read, script_of_split}
+use Rattle.script_reader.proofs.ScriptOf.{rules_kept}
 use Rattle.script_reader.proofs.reading.read_script.Goals as goal
 use Rattle.script_reader.proofs.reading.read_script.Goals.{In-Some, In-None}
 
@@ -24,7 +25,7 @@ script_is : (c : In-None) → script_of c.args.bytes.now ≡ Ok c.loop-piece.dra
 script_is c =
     let pieces = slice_split is_line_feed c.args.bytes.now in
     let reading = c.loop-piece.invariant.2 in
-    script_of_good c.args.bytes.now (omega arith) _ (no_fault pieces _ _ _ reading (done c)) (all_lines pieces _ _ _ reading (done c))
+    script_of_split c.args.bytes.now (omega arith) ∙ all_read pieces _ _ _ reading (done c)
 
 pub loop-piece-preserved-in-Ok-None : goal.loop-piece-preserved-in-Ok-None
 loop-piece-preserved-in-Ok-None c =
@@ -41,7 +42,7 @@ loop-piece-preserved c =
 pub returns-in-Err-clause-bad : goal.returns-in-Err-clause-bad
 returns-in-Err-clause-bad c =
     let t = turn (goal.at.returns-in-Err-clause-bad c).In-Some in
-    λ f is. script_of_bad c.args.bytes.now (omega arith) f (fault_here _ _ _ _ c.loop-piece.invariant.2 _ t.0 t.1 _ (sym c.in-Err.ensures.exact) ∙ ap Some (cc))
+    λ f is. script_of_split c.args.bytes.now (omega arith) ∙ fault_here _ _ _ _ c.loop-piece.invariant.2 _ t.0 t.1 _ (sym c.in-Err.ensures.exact) ∙ ap Err (cc)
 
 pub new-requires : goal.new-requires
 new-requires c = subst IsScript (sym c.into_lines.ensures.exact) (rules_kept c.args.bytes.now _ (script_is (goal.at.new-requires c).In-None))

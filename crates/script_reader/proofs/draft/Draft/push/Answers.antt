@@ -1,5 +1,5 @@
 use Rattle.std.proofs.Common.{[], ◌∷◌, ◌++◌, arith, ap, ◌∙◌, length}
-use Rattle.script_reader.specs.Script.{line_behind}
+use Rattle.script_reader.specs.Reader.{line_behind}
 use Rattle.script_reader.proofs.Lasts.{room_behind, place_behind, followed_behind, kept_at, TellsLast_behind}
 use Rattle.script_reader.proofs.draft.Draft.push.Goals as goal
 
