@@ -1,6 +1,9 @@
 mod Appended
 mod Attributes
+mod Cleared
 mod Counted
+mod Cuts
+mod Emptied
 mod Empty
 mod Ended
 mod Entries
@@ -12,9 +15,13 @@ mod Moves
 mod Pairs
 mod PutTogether
 mod Read
+mod Recounted
 mod RecordFields
+mod RollBack
 mod Same
+mod Settled
 mod Sides
 mod Stays
 mod Stored
+mod Taken
 mod Upto

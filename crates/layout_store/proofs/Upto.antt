@@ -128,7 +128,7 @@ fields-all change fs first last h = changed-alike (where_so change (before fs (l
 
 -- ---- cells
 
-module _ (cells : Cells) (version k : ℕ) where
+module _ (k : ℕ) where
   same_below : (i : ℕ) → (i ≡ k → ⊥) → nat_lt i (k + 1) ≡ nat_lt i k
   same_below i ne = by (nat_lt i k) refl
     where
@@ -149,21 +149,22 @@ module _ (cells : Cells) (version k : ℕ) where
   below_more : nat_lt k (k + 1) ≡ true
   below_more = let lt : k < k + 1 = omega arith in grind (arith, nat_tests)
 
+module _ (cells : Cells) (version k : ℕ) where
   module _ (change : Attribute → Attribute) (first cur : List Attribute) (h : AreChanged (where_so change (below cells version k)) first cur) where
     none_yet : below cells version k k ≡ false
-    none_yet = ap (λ (t : Bool). t && is_some (cell_at k version cells)) not_itself
+    none_yet = ap (λ (t : Bool). t && is_some (cell_at k version cells)) (not_itself k)
 
     pub cell-next : k < length first → is_some (cell_at k version cells) ≡ true → AreChanged (where_so change (below cells version (k + 1))) first (changed change (number k) cur)
     cell-next lt has =
-        one-more change (below cells version k) (below cells version (k + 1)) first cur k h (omega (arith, h.many)) none_yet (ap (λ (t : Bool). t && is_some (cell_at k version cells)) below_more ∙ has)
-        (λ i ne. ap (λ (t : Bool). t && is_some (cell_at i version cells)) (same_below i ne))
+        one-more change (below cells version k) (below cells version (k + 1)) first cur k h (omega (arith, h.many)) none_yet (ap (λ (t : Bool). t && is_some (cell_at k version cells)) (below_more k) ∙ has)
+        (λ i ne. ap (λ (t : Bool). t && is_some (cell_at i version cells)) (same_below k i ne))
 
     pub cell-past : is_some (cell_at k version cells) ≡ false → AreChanged (where_so change (below cells version (k + 1))) first cur
     cell-past lacks =
         changed-alike (where_so change (below cells version k)) (where_so change (below cells version (k + 1))) first cur h
         (λ i a at. ap (λ (t : Bool). cond t (change a) a) (equal_or_not i k (below cells version k i ≡ below cells version (k + 1) i)
-        (λ e. ap (below cells version k) e ∙ none_yet ∙ sym (ap (below cells version (k + 1)) e ∙ ap (λ (t : Bool). t && is_some (cell_at k version cells)) below_more ∙ lacks))
-        (λ ne. sym (ap (λ (t : Bool). t && is_some (cell_at i version cells)) (same_below i ne)))))
+        (λ e. ap (below cells version k) e ∙ none_yet ∙ sym (ap (below cells version (k + 1)) e ∙ ap (λ (t : Bool). t && is_some (cell_at k version cells)) (below_more k) ∙ lacks))
+        (λ ne. sym (ap (λ (t : Bool). t && is_some (cell_at i version cells)) (same_below k i ne)))))
 
     pub cell-now : (P : Attribute → Type 0) → k < length first → is_some (cell_at k version cells) ≡ true → ((i : ℕ) (a : Attribute) → slice_get first i ≡ Some a → is_some (cell_at i version cells) ≡ true → P a) → IfSome (slice_get cur k) P
     cell-now P lt has so =
@@ -187,32 +188,45 @@ cells-all change cells version n first last le h =
     changed-alike (where_so change (below cells version n)) (where_so change (λ i. is_some (cell_at i version cells))) first last h
     (λ i a at. let lt = slice_get_within first i a at in let less : i < n = omega (arith, lt) in let e : nat_lt i n ≡ true = grind (arith, nat_tests) in ap (λ (t : Bool). cond (t && is_some (cell_at i version cells)) (change a) a) e)
 
+-- ---- numbers alone
+
+pub numbers-none : (change : Attribute → Attribute) (first : List Attribute) → AreChanged (where_so change (λ i. nat_lt i 0)) first first
+numbers-none change first = changed-none (where_so change (λ i. nat_lt i 0)) first (λ i a. let e : nat_lt i 0 ≡ false = grind (arith, nat_tests) in ap (λ (t : Bool). cond t (change a) a) e)
+
+pub number-next : (change : Attribute → Attribute) (k : ℕ) (first cur : List Attribute) → AreChanged (where_so change (λ i. nat_lt i k)) first cur → k < length first → AreChanged (where_so change (λ i. nat_lt i (k + 1))) first (changed change (number k) cur)
+number-next change k first cur h lt = one-more change (λ i. nat_lt i k) (λ i. nat_lt i (k + 1)) first cur k h (omega (arith, h.many)) (not_itself k) (below_more k) (λ i ne. same_below k i ne)
+
+pub numbers-all : (change : Attribute → Attribute) (n : ℕ) (first last : List Attribute) → length first ≤ n → AreChanged (where_so change (λ i. nat_lt i n)) first last → AreChanged (λ i. change) first last
+numbers-all change n first last le h =
+    changed-alike (where_so change (λ i. nat_lt i n)) (λ i. change) first last h
+    (λ i a at. let lt = slice_get_within first i a at in let less : i < n = omega (arith, lt) in let e : nat_lt i n ≡ true = grind (arith, nat_tests) in ap (λ (t : Bool). cond t (change a) a) e)
+
 -- ---- both sides
 
-pub both-lowered : (fs : List Field) (cells : Cells) (version : ℕ) (first middle last : List Attribute) → ((i : ℕ) (bytes : List ℕ) → value_of i fs ≡ Some bytes → cell_at i version cells ≡ None)
-    → AreChanged (λ i. lowered_if (is_some (value_of i fs))) first middle → AreChanged (λ i. lowered_if (is_some (cell_at i version cells))) middle last → AreChanged (λ i. lowered_if (is_some (either_side (value_of i fs) (cell_at i version cells)))) first last
-both-lowered fs cells version first middle last apart h k =
-    changed-alike (λ i a. lowered_if (is_some (cell_at i version cells)) (lowered_if (is_some (value_of i fs)) a)) (λ i. lowered_if (is_some (either_side (value_of i fs) (cell_at i version cells)))) first last
-    (changed-twice (λ i. lowered_if (is_some (value_of i fs))) (λ i. lowered_if (is_some (cell_at i version cells))) first middle last h k)
+pub both-changed : (change : Attribute → Attribute) (fs : List Field) (cells : Cells) (version : ℕ) (first middle last : List Attribute) → ((i : ℕ) (bytes : List ℕ) → value_of i fs ≡ Some bytes → cell_at i version cells ≡ None)
+    → AreChanged (where_so change (λ i. is_some (value_of i fs))) first middle → AreChanged (where_so change (λ i. is_some (cell_at i version cells))) middle last → AreChanged (where_so change (λ i. is_some (either_side (value_of i fs) (cell_at i version cells)))) first last
+both-changed change fs cells version first middle last apart h k =
+    changed-alike (λ i a. where_so change (λ j. is_some (cell_at j version cells)) i (where_so change (λ j. is_some (value_of j fs)) i a)) (where_so change (λ i. is_some (either_side (value_of i fs) (cell_at i version cells)))) first last
+    (changed-twice (where_so change (λ i. is_some (value_of i fs))) (where_so change (λ i. is_some (cell_at i version cells))) first middle last h k)
     (λ i a at. by i a (value_of i fs) refl (cell_at i version cells) refl)
   where
-    by : (i : ℕ) (a : Attribute) (r : Option (List ℕ)) → value_of i fs ≡ r → (c : Option Value) → cell_at i version cells ≡ c → lowered_if (is_some c) (lowered_if (is_some r) a) ≡ lowered_if (is_some (either_side r c)) a
+    by : (i : ℕ) (a : Attribute) (r : Option (List ℕ)) → value_of i fs ≡ r → (c : Option Value) → cell_at i version cells ≡ c → cond (is_some c) (change (cond (is_some r) (change a) a)) (cond (is_some r) (change a) a) ≡ cond (is_some (either_side r c)) (change a) a
     by i a None e None f = refl
     by i a None e (Some v) f = refl
     by i a (Some b) e None f = refl
     by i a (Some b) e (Some v) f = absurd (none-some v (sym (apart i b e) ∙ f))
 
--- what is lowered by its cell was not lowered by its record
-pub still-counted : (fs : List Field) (cells : Cells) (version : ℕ) (first middle : List Attribute) → ((i : ℕ) (bytes : List ℕ) → value_of i fs ≡ Some bytes → cell_at i version cells ≡ None) → AreChanged (λ i. lowered_if (is_some (value_of i fs))) first middle
-    → ((i : ℕ) (a : Attribute) → slice_get first i ≡ Some a → is_some (either_side (value_of i fs) (cell_at i version cells)) ≡ true → 0 < a.count) → (i : ℕ) (a : Attribute) → slice_get middle i ≡ Some a → is_some (cell_at i version cells) ≡ true → 0 < a.count
-still-counted fs cells version first middle apart h so i a at has =
-    let b = changed-back (λ j. lowered_if (is_some (value_of j fs))) first middle h i a at in
+-- what is changed by its cell was not changed by its record
+pub still-so : (change : Attribute → Attribute) (P : Attribute → Type 0) (fs : List Field) (cells : Cells) (version : ℕ) (first middle : List Attribute) → ((i : ℕ) (bytes : List ℕ) → value_of i fs ≡ Some bytes → cell_at i version cells ≡ None) → AreChanged (where_so change (λ i. is_some (value_of i fs))) first middle
+    → ((i : ℕ) (a : Attribute) → slice_get first i ≡ Some a → is_some (either_side (value_of i fs) (cell_at i version cells)) ≡ true → P a) → (i : ℕ) (a : Attribute) → slice_get middle i ≡ Some a → is_some (cell_at i version cells) ≡ true → P a
+still-so change P fs cells version first middle apart h so i a at has =
+    let b = changed-back (where_so change (λ j. is_some (value_of j fs))) first middle h i a at in
     by b.0 b.1 b.2 (value_of i fs) refl (cell_at i version cells) refl has
   where
-    by : (b : Attribute) → slice_get first i ≡ Some b → a ≡ lowered_if (is_some (value_of i fs)) b → (r : Option (List ℕ)) → value_of i fs ≡ r → (c : Option Value) → cell_at i version cells ≡ c → is_some c ≡ true → 0 < a.count
+    by : (b : Attribute) → slice_get first i ≡ Some b → a ≡ where_so change (λ j. is_some (value_of j fs)) i b → (r : Option (List ℕ)) → value_of i fs ≡ r → (c : Option Value) → cell_at i version cells ≡ c → is_some c ≡ true → P a
     by b there is r e None f sure = absurd (let both : false ≡ true = sure in cc)
     by b there is None e (Some v) f sure =
-        let same : a ≡ b = is ∙ ap (λ (o : Option (List ℕ)). lowered_if (is_some o) b) e in
+        let same : a ≡ b = is ∙ ap (λ (o : Option (List ℕ)). cond (is_some o) (change b) b) e in
         let test : is_some (either_side (value_of i fs) (cell_at i version cells)) ≡ true = (λ k. is_some (either_side (e k) (f k))) in
-        subst (λ (x : Attribute). 0 < x.count) (sym same) (so i b there test)
+        subst P (sym same) (so i b there test)
     by b there is (Some bytes) e (Some v) f sure = absurd (none-some v (sym (apart i bytes e) ∙ f))

@@ -7,3 +7,5 @@ pub mod Changes
 pub mod Values
 pub mod Moved
 pub mod Along
+pub mod RolledBack
+pub mod Emptied

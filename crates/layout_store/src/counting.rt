@@ -1,10 +1,11 @@
 ghost use Rattle.std.specs.Prelude.{ℕ, List, ◌≡◌, ◌<◌, true, Some, None, IfSome, length, is_some, slice_get, if◌then◌else◌};
 ghost use Rattle.reservoir_record.specs.Finding.{value_of};
-ghost use Rattle.attr_catalog.specs.Attribute.{Attribute, lowered};
+ghost use Rattle.attr_catalog.specs.Attribute.{Attribute, lowered, raised};
 ghost use Rattle.attr_catalog.specs.Catalog.{changed, most_versions};
 ghost use Rattle.phys_columns.specs.Cells.{cell_at};
 ghost use Rattle.layout_store.specs.Storage.{either_side};
 ghost use Rattle.layout_store.specs.Changes.{AreChanged, lowered_if, written_to, written_if};
+ghost use Rattle.layout_store.specs.RolledBack.{raised_if};
 
 use attr_catalog::{Catalog, Home};
 use doc_values::AttrId;
@@ -51,6 +52,49 @@ fn lower_cell(catalog: &mut Catalog, columns: &Columns, version: u32, id: AttrId
 {
     if columns.has(id, version) {
         catalog.lower(id);
+    }
+}
+
+/// Counts one document more for each attribute that a version holds.
+pub(crate) fn raise_all(catalog: &mut Catalog, stored: &Record, columns: &Columns, version: u32)
+    requires known { (id : ℕ) (bytes : List ℕ) → value_of id stored.now ≡ Some bytes → id < length catalog.old }
+    requires apart { (id : ℕ) (bytes : List ℕ) → value_of id stored.now ≡ Some bytes → cell_at id version columns.now.cells ≡ None }
+    requires room { (id : ℕ) (a : Attribute) → slice_get catalog.old id ≡ Some a → is_some (either_side (value_of id stored.now) (cell_at id version columns.now.cells)) ≡ true → a.count < most_versions }
+    ensures exact { AreChanged (λ id. raised_if (is_some (either_side (value_of id stored.now) (cell_at id version columns.now.cells)))) catalog.old catalog.new }
+{
+    raise_fields(catalog, stored);
+    raise_cells(catalog, columns, version);
+}
+
+// Counts one document more for each attribute of a record.
+fn raise_fields(catalog: &mut Catalog, stored: &Record)
+    requires known { (id : ℕ) (bytes : List ℕ) → value_of id stored.now ≡ Some bytes → id < length catalog.old }
+    requires room { (id : ℕ) (a : Attribute) → slice_get catalog.old id ≡ Some a → is_some (value_of id stored.now) ≡ true → a.count < most_versions }
+    ensures exact { AreChanged (λ id. raised_if (is_some (value_of id stored.now))) catalog.old catalog.new }
+{
+    for place in 0..stored.len() {
+        catalog.raise(AttrId(stored.id(place)));
+    }
+}
+
+// Counts one document more for each attribute that has a cell.
+fn raise_cells(catalog: &mut Catalog, columns: &Columns, version: u32)
+    requires room { (id : ℕ) (a : Attribute) → slice_get catalog.old id ≡ Some a → is_some (cell_at id version columns.now.cells) ≡ true → a.count < most_versions }
+    ensures exact { AreChanged (λ id. raised_if (is_some (cell_at id version columns.now.cells))) catalog.old catalog.new }
+{
+    for id in 0..catalog.len() {
+        raise_cell(catalog, columns, version, AttrId(id));
+    }
+}
+
+// Counts one document more for an attribute, if it has a cell.
+fn raise_cell(catalog: &mut Catalog, columns: &Columns, version: u32, id: AttrId)
+    requires standing { id.0 < length catalog.old }
+    requires room { is_some (cell_at id.0 version columns.now.cells) ≡ true → IfSome (slice_get catalog.old id.0) (λ a. a.count < most_versions) }
+    ensures exact { catalog.new ≡ (if is_some (cell_at id.0 version columns.now.cells) then changed raised id catalog.old else catalog.old) }
+{
+    if columns.has(id, version) {
+        catalog.raise(id);
     }
 }
 

@@ -20,12 +20,13 @@ use crate::moving::{move_home, step_mark};
 use crate::numbering::record_of;
 use crate::pushing::push;
 use crate::reading::read_path;
+use crate::rolling::{raise_reopened, settle_marks, take_back};
 use crate::whole::whole;
 use attr_catalog::{Catalog, Home, Path};
 use doc_values::{AttrId, Doc, ValueRef, documents_are_maps};
 use document_records::{Parts, Record, records_are_their_documents, stored_values_are_told_apart};
 use phys_columns::{Columns, CompareInt, Mask, cells_are_a_map};
-use row_versions::{VersionId, Versions, appends_show, endings_show};
+use row_versions::{VersionId, Versions, appends_show, endings_show, roll_backs_show};
 use std::alloc::{AllocError, Global};
 use std::marker::Model;
 
@@ -65,6 +66,7 @@ impl Layout {
     ghost use Rattle.layout_store.specs.Numbering.{with_fields};
     ghost use Rattle.layout_store.specs.Changes.{HasStepped, HasEnded, HasAppended};
     ghost use Rattle.layout_store.specs.Values.{value_held, value_wanted};
+    ghost use Rattle.layout_store.specs.RolledBack.{HasRolledBack, ShowsAsBefore};
 
     pub fn new(alloc: Global) -> Layout
         ensures exact { result ≡ record { attributes = []; history = record { versions = []; horizon = 0 }; records = []; cells = map.empty } }
@@ -243,5 +245,31 @@ impl Layout {
                 Err(fault)
             }
         }
+    }
+    /// Takes the newest commit back: its versions, its ends, and the attributes from a number on.
+    pub fn roll_back(&mut self, commit: u64, attributes: u32)
+        requires latest { IsLatest commit self.old.history.versions }
+        requires above { self.old.history.horizon < commit }
+        requires within { attributes ≤ length self.old.attributes }
+        requires unheld { (version id : ℕ) → attributes ≤ id → IfSome (slice_get self.old.history.versions version) (λ v. v.begin < commit → held self.old version id ≡ None) }
+        ensures exact { HasRolledBack commit attributes self.old self.new }
+        ensures shows { ShowsAsBefore commit self.old self.new }
+    {
+        roll_backs_show();
+        self.versions.keeps_order();
+        let catalog = &mut self.catalog;
+        raise_reopened(
+            catalog,
+            &self.versions,
+            &self.records,
+            &self.columns,
+            commit,
+        );
+        self.versions.roll_back(commit);
+        let len = self.versions.len();
+        take_back(&mut self.catalog, &self.records, &mut self.columns, len);
+        self.records.truncate(len as usize);
+        self.catalog.cut(attributes);
+        settle_marks(&mut self.catalog, len);
     }
 }

@@ -13,6 +13,7 @@ mod moving;
 mod numbering;
 mod pushing;
 mod reading;
+mod rolling;
 mod whole;
 
 pub use grow_fault::GrowFault;
