@@ -18,6 +18,7 @@ mod Read
 mod Recounted
 mod RecordFields
 mod RollBack
+mod RollKnown
 mod Same
 mod Settled
 mod Sides

@@ -12,7 +12,7 @@ use Rattle.layout_store.proofs.Counted.{count-none}
 pub one_next : (t : ℕ → Bool) (k : ℕ) → count_below t (k + 1) ≡ cond (t k) 1 0 + count_below t k
 one_next t k = let e : k + 1 ≡ suc k = omega arith in ap (count_below t) e
 
-abbrev bit : Bool → ℕ
+abbrev pub bit : Bool → ℕ
 bit b = cond b 1 0
 
 one_more : (b : Bool) → b ≡ true → bit b ≡ 1

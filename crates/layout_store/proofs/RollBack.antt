@@ -1,5 +1,5 @@
 -- The newest commit is taken back: what is left is held as it was, and counted.
-use Rattle.std.proofs.Common.{◌≡◌, ℕ, zero, suc, ◌+◌, ◌-◌, ◌<◌, ◌≤◌, ◌&&◌, nat_lt, nat_le, not, Bool, true, false, cond, List, [], length, take, drop, Option, Some, None, IfSome, is_some, option_map, option_and_then, unwrap_or, slice_get, position, refl, sym, ap, subst, ◌∙◌, arith}
+use Rattle.std.proofs.Common.{◌≡◌, ℕ, zero, suc, ◌+◌, ◌-◌, ◌<◌, ◌≤◌, ◌&&◌, nat_lt, nat_le, not, Bool, true, false, cond, List, [], ◌∷◌, length, take, drop, Option, Some, None, IfSome, is_some, option_map, option_and_then, unwrap_or, slice_get, position, refl, sym, ap, subst, ◌∙◌, arith}
 use Rattle.std.specs.Prelude.{All}
 use Rattle.std.specs.List.{AllByRecursion}
 use Rattle.std.specs.Option.{option_map_or}
@@ -78,21 +78,21 @@ early_sum commit (Some end) = by (nat_le commit end) refl
     by true e =
         let le : commit ≤ end = grind (arith, nat_tests) in
         let gone : end_before commit (Some end) ≡ None = ap (λ (b : Bool). cond b (Some end) None) (le-ltb end commit le) in
-        ap bit e ∙ sym (ap (λ (o : Option ℕ). bit (not (is_some o))) gone)
+        ap (λ (b : Bool). 0 + bit b) e ∙ sym (ap (λ (o : Option ℕ). bit (not (is_some o))) gone)
     by false e =
         let lt : end < commit = grind (arith, nat_tests) in
         let stays : end_before commit (Some end) ≡ Some end = ap (λ (b : Bool). cond b (Some end) None) (lt-ltb end commit lt) in
-        ap bit e ∙ sym (ap (λ (o : Option ℕ). bit (not (is_some o))) stays)
+        ap (λ (b : Bool). 0 + bit b) e ∙ sym (ap (λ (o : Option ℕ). bit (not (is_some o))) stays)
 
 late_sum : (commit : ℕ) (o : Option ℕ) → ((end : ℕ) → o ≡ Some end → commit ≤ end) → bit (not (is_some o)) + bit (ends_from commit o) ≡ 1
 late_sum commit None late = refl
-late_sum commit (Some end) late = ap bit (le_true commit end (late end refl))
+late_sum commit (Some end) late = ap (λ (b : Bool). 0 + bit b) (le_true commit end (late end refl))
 
 most_one : (commit : ℕ) (o : Option ℕ) → bit (not (is_some o)) + bit (ends_from commit o) ≤ 1
 most_one commit None = omega arith
 most_one commit (Some end) = by (ends_from commit (Some end))
   where
-    by : (t : Bool) → bit t ≤ 1
+    by : (t : Bool) → 0 + bit t ≤ 1
     by true = omega arith
     by false = omega arith
 
