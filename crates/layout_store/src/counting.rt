@@ -7,13 +7,18 @@ ghost use Rattle.layout_store.specs.Storage.{either_side};
 ghost use Rattle.layout_store.specs.Changes.{AreChanged, lowered_if, written_to, written_if};
 ghost use Rattle.layout_store.specs.RolledBack.{raised_if};
 
+use crate::record_place::RecordPlace;
 use attr_catalog::{Catalog, Home};
 use doc_values::AttrId;
-use document_records::Record;
 use phys_columns::Columns;
 
 /// Counts one document fewer for each attribute that a version holds.
-pub(crate) fn lower_all(catalog: &mut Catalog, stored: &Record, columns: &Columns, version: u32)
+pub(crate) fn lower_all(
+    catalog: &mut Catalog,
+    stored: &RecordPlace,
+    columns: &Columns,
+    version: u32,
+)
     requires known { (id : ℕ) (bytes : List ℕ) → value_of id stored.now ≡ Some bytes → id < length catalog.old }
     requires apart { (id : ℕ) (bytes : List ℕ) → value_of id stored.now ≡ Some bytes → cell_at id version columns.now.cells ≡ None }
     requires counted { (id : ℕ) (a : Attribute) → slice_get catalog.old id ≡ Some a → is_some (either_side (value_of id stored.now) (cell_at id version columns.now.cells)) ≡ true → 0 < a.count }
@@ -24,7 +29,7 @@ pub(crate) fn lower_all(catalog: &mut Catalog, stored: &Record, columns: &Column
 }
 
 // Counts one document fewer for each attribute of a record.
-fn lower_fields(catalog: &mut Catalog, stored: &Record)
+fn lower_fields(catalog: &mut Catalog, stored: &RecordPlace)
     requires known { (id : ℕ) (bytes : List ℕ) → value_of id stored.now ≡ Some bytes → id < length catalog.old }
     requires counted { (id : ℕ) (a : Attribute) → slice_get catalog.old id ≡ Some a → is_some (value_of id stored.now) ≡ true → 0 < a.count }
     ensures exact { AreChanged (λ id. lowered_if (is_some (value_of id stored.now))) catalog.old catalog.new }
@@ -56,7 +61,12 @@ fn lower_cell(catalog: &mut Catalog, columns: &Columns, version: u32, id: AttrId
 }
 
 /// Counts one document more for each attribute that a version holds.
-pub(crate) fn raise_all(catalog: &mut Catalog, stored: &Record, columns: &Columns, version: u32)
+pub(crate) fn raise_all(
+    catalog: &mut Catalog,
+    stored: &RecordPlace,
+    columns: &Columns,
+    version: u32,
+)
     requires known { (id : ℕ) (bytes : List ℕ) → value_of id stored.now ≡ Some bytes → id < length catalog.old }
     requires apart { (id : ℕ) (bytes : List ℕ) → value_of id stored.now ≡ Some bytes → cell_at id version columns.now.cells ≡ None }
     requires room { (id : ℕ) (a : Attribute) → slice_get catalog.old id ≡ Some a → is_some (either_side (value_of id stored.now) (cell_at id version columns.now.cells)) ≡ true → a.count < most_versions }
@@ -67,7 +77,7 @@ pub(crate) fn raise_all(catalog: &mut Catalog, stored: &Record, columns: &Column
 }
 
 // Counts one document more for each attribute of a record.
-fn raise_fields(catalog: &mut Catalog, stored: &Record)
+fn raise_fields(catalog: &mut Catalog, stored: &RecordPlace)
     requires known { (id : ℕ) (bytes : List ℕ) → value_of id stored.now ≡ Some bytes → id < length catalog.old }
     requires room { (id : ℕ) (a : Attribute) → slice_get catalog.old id ≡ Some a → is_some (value_of id stored.now) ≡ true → a.count < most_versions }
     ensures exact { AreChanged (λ id. raised_if (is_some (value_of id stored.now))) catalog.old catalog.new }
@@ -99,7 +109,7 @@ fn raise_cell(catalog: &mut Catalog, columns: &Columns, version: u32, id: AttrId
 }
 
 /// Counts one document more for each attribute of a new version's record, and marks columns dirty from it on.
-pub(crate) fn write_all(catalog: &mut Catalog, stored: &Record, version: u32)
+pub(crate) fn write_all(catalog: &mut Catalog, stored: &RecordPlace, version: u32)
     requires known { (id : ℕ) (bytes : List ℕ) → value_of id stored.now ≡ Some bytes → id < length catalog.old }
     requires room { (id : ℕ) (a : Attribute) → slice_get catalog.old id ≡ Some a → a.count < most_versions }
     ensures exact { AreChanged (λ id. written_if version (is_some (value_of id stored.now))) catalog.old catalog.new }

@@ -20,13 +20,16 @@ use crate::moving::{move_home, step_mark};
 use crate::numbering::record_of;
 use crate::pushing::push;
 use crate::reading::read_path;
-use crate::rolling::{raise_reopened, settle_marks, take_back};
+use crate::record_place::RecordPlace;
+use crate::rolling::{clear_cells, raise_reopened, settle_marks, take_back};
 use crate::whole::whole;
 use attr_catalog::{Catalog, Home, Path};
 use doc_values::{AttrId, Doc, ValueRef, documents_are_maps};
-use document_records::{Parts, Record, records_are_their_documents, stored_values_are_told_apart};
+use document_records::{Parts, records_are_their_documents, stored_values_are_told_apart};
 use phys_columns::{Columns, CompareInt, Mask, cells_are_a_map};
-use row_versions::{VersionId, Versions, appends_show, endings_show, roll_backs_show};
+use row_versions::{
+    VersionId, Versions, appends_show, empties_show, endings_show, roll_backs_show,
+};
 use std::alloc::{AllocError, Global};
 use std::marker::Model;
 
@@ -35,7 +38,7 @@ use std::marker::Model;
 pub struct Layout {
     catalog: Catalog,
     versions: Versions,
-    records: Vec<Record>,
+    records: Vec<RecordPlace>,
     columns: Columns,
     // Their memory serves many documents.
     entries: Vec<(u32, usize)>,
@@ -67,6 +70,7 @@ impl Layout {
     ghost use Rattle.layout_store.specs.Changes.{HasStepped, HasEnded, HasAppended};
     ghost use Rattle.layout_store.specs.Values.{value_held, value_wanted};
     ghost use Rattle.layout_store.specs.RolledBack.{HasRolledBack, ShowsAsBefore};
+    ghost use Rattle.layout_store.specs.Emptied.{HasEmptied, ShowsFromHorizon};
 
     pub fn new(alloc: Global) -> Layout
         ensures exact { result ≡ record { attributes = []; history = record { versions = []; horizon = 0 }; records = []; cells = map.empty } }
@@ -271,5 +275,20 @@ impl Layout {
         self.records.truncate(len as usize);
         self.catalog.cut(attributes);
         settle_marks(&mut self.catalog, len);
+    }
+    /// Gives up what a version holds that has ended, and its memory. What rows show below its end is then not known.
+    pub fn empty_version(&mut self, version: VersionId)
+        requires within { version.0 < length self.old.history.versions }
+        requires ended { IfSome (slice_get self.old.history.versions version.0) (λ v. IsSome v.end) }
+        ensures exact { HasEmptied version.0 self.old self.new }
+        ensures shows { ShowsFromHorizon self.old self.new }
+    {
+        empties_show();
+        let Some(end) = self.versions.end_of(version) else {
+            return;
+        };
+        clear_cells(&mut self.columns, self.catalog.len(), version.0);
+        self.records[version.0 as usize].clear();
+        self.versions.empty_old(version, end);
     }
 }

@@ -13,6 +13,7 @@ mod moving;
 mod numbering;
 mod pushing;
 mod reading;
+mod record_place;
 mod rolling;
 mod whole;
 

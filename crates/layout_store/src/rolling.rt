@@ -10,9 +10,9 @@ ghost use Rattle.layout_store.specs.Changes.{AreChanged};
 ghost use Rattle.layout_store.specs.RolledBack.{held_in, is_reopened, raised_by, lowered_by, raised_if, settled};
 
 use crate::counting::{lower_all, raise_all};
+use crate::record_place::RecordPlace;
 use attr_catalog::Catalog;
 use doc_values::AttrId;
-use document_records::Record;
 use phys_columns::{Columns, cells_are_a_map};
 use row_versions::{VersionId, Versions};
 
@@ -20,7 +20,7 @@ use row_versions::{VersionId, Versions};
 pub(crate) fn raise_reopened(
     catalog: &mut Catalog,
     versions: &Versions,
-    records: &[Record],
+    records: &[RecordPlace],
     columns: &Columns,
     commit: u64,
 )
@@ -46,7 +46,7 @@ pub(crate) fn raise_reopened(
 fn raise_if_reopened(
     catalog: &mut Catalog,
     versions: &Versions,
-    stored: &Record,
+    stored: &RecordPlace,
     columns: &Columns,
     version: u32,
     commit: u64,
@@ -72,7 +72,12 @@ fn ended_from(versions: &Versions, version: u32, commit: u64) -> bool
 }
 
 /// Counts once less what is held by the versions from a number on, and clears their cells.
-pub(crate) fn take_back(catalog: &mut Catalog, records: &[Record], columns: &mut Columns, len: u32)
+pub(crate) fn take_back(
+    catalog: &mut Catalog,
+    records: &[RecordPlace],
+    columns: &mut Columns,
+    len: u32,
+)
     requires known { (version id : ℕ) (bytes : List ℕ) → held_in records.now columns.old.cells version id ≡ Some bytes → (version < length records.now) × (id < length catalog.old) }
     requires apart { (version id : ℕ) (bytes : List ℕ) → value_of id (record_at version records.now) ≡ Some bytes → cell_at id version columns.old.cells ≡ None }
     requires within { len ≤ length records.now }

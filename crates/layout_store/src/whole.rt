@@ -11,9 +11,10 @@ ghost use Rattle.layout_store.specs.Storage.{either_side};
 ghost use Rattle.layout_store.specs.Documents.{field_if, fields_below};
 ghost use Rattle.layout_store.specs.Placed.{IsCelled};
 
+use crate::record_place::RecordPlace;
 use attr_catalog::Catalog;
 use doc_values::{AttrId, Doc, Utf, Value};
-use document_records::{Record, read_value, stored_values_are_told_apart};
+use document_records::{read_value, stored_values_are_told_apart};
 use phys_columns::Columns;
 use std::alloc::{AllocError, Global};
 
@@ -21,7 +22,7 @@ use std::alloc::{AllocError, Global};
 pub(crate) fn whole(
     alloc: Global,
     catalog: &Catalog,
-    stored: &Record,
+    stored: &RecordPlace,
     columns: &Columns,
     version: u32,
 ) -> Result<Doc, AllocError>
@@ -48,7 +49,7 @@ pub(crate) fn whole(
 fn put_held(
     alloc: Global,
     catalog: &Catalog,
-    stored: &Record,
+    stored: &RecordPlace,
     columns: &Columns,
     version: u32,
     id: AttrId,

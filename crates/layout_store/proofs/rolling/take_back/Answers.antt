@@ -44,11 +44,13 @@ lower_all-requires-clause-counted c = λ id a at sure.
     lower-left (λ v i. nat_le c.args.len v && is_some (held_in c.args.records.now c.args.columns.now.cells v i)) k (length c.args.records.now) c.args.catalog.now c.loop-version.catalog c.loop-version.invariant.0 lt c.requires.held id a at test
 
 pub clear_cells-requires : goal.clear_cells-requires
-clear_cells-requires c = record { known = λ id value e.
-    let k = c.loop-version.version in
-    let was = sym (c.loop-version.invariant.1.high k id (omega arith)) ∙ e in
-    let held = cell-held c.args.records.now c.args.columns.now.cells k id value was in
-    omega (arith, (c.requires.known k id held.0 held.1).1, c.loop-version.invariant.0.many, c.lower_all.ensures.exact.many, c.len.ensures.exact) }
+clear_cells-requires c = record {
+  known = λ id value e.
+      let k = c.loop-version.version in
+      let was = sym (c.loop-version.invariant.1.high k id (omega arith)) ∙ e in
+      let held = cell-held c.args.records.now c.args.columns.now.cells k id value was in
+      omega (arith, (c.requires.known k id held.0 held.1).1, c.loop-version.invariant.0.many, c.lower_all.ensures.exact.many, c.len.ensures.exact);
+}
 
 pub loop-version-preserved : goal.loop-version-preserved
 loop-version-preserved c =
@@ -59,11 +61,12 @@ loop-version-preserved c =
     let from : nat_le c.args.len k ≡ true = grind (arith, nat_tests) in
     let same : (id : ℕ) → is_some (either_side (value_of id c.index-records-version.result) (cell_at id k c.loop-version.columns.cells)) ≡ nat_le c.args.len k && is_some (held_in c.args.records.now c.args.columns.now.cells k id) =
     λ id. ap (λ (o : Option Value). is_some (either_side (value_of id c.index-records-version.result) o)) (c.loop-version.invariant.1.high k id (omega arith))
-    ∙ sym (λ i. from i && is_some (held-here c.args.records.now c.args.columns.now.cells k c.index-records-version.result there id i)) in
-    (lowered-next (λ v id. nat_le c.args.len v && is_some (held_in c.args.records.now c.args.columns.now.cells v id)) k c.args.catalog.now c.loop-version.catalog c.lower_all.new.catalog c.loop-version.invariant.0
-    (changed-alike (λ id. lowered_if (is_some (either_side (value_of id c.index-records-version.result) (cell_at id k c.loop-version.columns.cells)))) (λ id. lowered_if (nat_le c.args.len k && is_some (held_in c.args.records.now c.args.columns.now.cells k id)))
-    c.loop-version.catalog c.lower_all.new.catalog c.lower_all.ensures.exact (λ id a at. ap (λ (t : Bool). lowered_if t a) (same id))),
-    cleared-next c.args.len k c.args.columns.now.cells c.loop-version.columns.cells c.clear_cells.new.columns.cells le c.loop-version.invariant.1 c.clear_cells.ensures.gone c.clear_cells.ensures.kept)
+    ∙ sym (λ i. from i && is_some (held-here c.args.records.now c.args.columns.now.cells k c.index-records-version.result there id i)) in (
+      lowered-next (λ v id. nat_le c.args.len v && is_some (held_in c.args.records.now c.args.columns.now.cells v id)) k c.args.catalog.now c.loop-version.catalog c.lower_all.new.catalog c.loop-version.invariant.0
+          (changed-alike (λ id. lowered_if (is_some (either_side (value_of id c.index-records-version.result) (cell_at id k c.loop-version.columns.cells)))) (λ id. lowered_if (nat_le c.args.len k && is_some (held_in c.args.records.now c.args.columns.now.cells k id)))
+          c.loop-version.catalog c.lower_all.new.catalog c.lower_all.ensures.exact (λ id a at. ap (λ (t : Bool). lowered_if t a) (same id))),
+      cleared-next c.args.len k c.args.columns.now.cells c.loop-version.columns.cells c.clear_cells.new.columns.cells le c.loop-version.invariant.1 c.clear_cells.ensures.gone c.clear_cells.ensures.kept,
+    )
 
 pub returns : goal.returns
 returns c =
