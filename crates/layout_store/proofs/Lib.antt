@@ -1,4 +1,5 @@
 mod Appended
+mod Ascending
 mod Attributes
 mod Cleared
 mod Counted

@@ -9,3 +9,4 @@ pub mod Moved
 pub mod Along
 pub mod RolledBack
 pub mod Emptied
+pub mod Listed

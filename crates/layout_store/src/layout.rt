@@ -14,6 +14,7 @@ ghost use Rattle.doc_values.specs.Lent.{owned};
 ghost use Rattle.document_records.specs.Limits.{most_weight};
 ghost use Rattle.document_records.specs.StoredDocument.{pairs_of};
 
+use crate::cell_ids::CellIds;
 use crate::counting::{lower_all, write_all};
 use crate::grow_fault::GrowFault;
 use crate::moving::{move_home, step_mark};
@@ -40,6 +41,7 @@ pub struct Layout {
     versions: Versions,
     records: Vec<RecordPlace>,
     columns: Columns,
+    cell_ids: CellIds,
     // Their memory serves many documents.
     entries: Vec<(u32, usize)>,
     parts: Parts,
@@ -51,6 +53,7 @@ impl Model for Layout {
     ghost use Rattle.doc_values.specs.contracts.value.Value as of_value;
     ghost use Rattle.layout_store.specs.Storage.{Storage};
     ghost use Rattle.layout_store.specs.Placed.{IsLayout};
+    ghost use Rattle.layout_store.specs.Listed.{AreListed};
 
     ghost Value = { Storage };
 
@@ -58,7 +61,7 @@ impl Model for Layout {
 
     ghost view = { λ l. record { attributes = l.catalog; history = l.versions; records = l.records.items; cells = l.columns.cells } };
 
-    ghost invariant = { λ l. IsLayout (record { attributes = l.catalog; history = l.versions; records = l.records.items; cells = l.columns.cells }) };
+    ghost invariant = { λ l. IsLayout (record { attributes = l.catalog; history = l.versions; records = l.records.items; cells = l.columns.cells }) × AreListed l.cell_ids l.columns.cells };
 }
 
 impl Layout {
@@ -79,11 +82,13 @@ impl Layout {
         let versions = Versions::new(alloc);
         let records = Vec::new(alloc);
         let columns = Columns::new(alloc);
+        let cell_ids = CellIds::new(alloc);
         Layout {
             catalog,
             versions,
             records,
             columns,
+            cell_ids,
             entries: Vec::new(alloc),
             parts: Parts::new(alloc),
         }
@@ -180,6 +185,7 @@ impl Layout {
         let alloc = *self.records.allocator();
         let kind = self.catalog.kind(id);
         let home = self.catalog.home(id);
+        self.cell_ids.add(id.0)?;
         let stored = &mut self.records[version.0 as usize];
         move_home(alloc, home, kind, stored, &mut self.columns, id, version.0)?;
         step_mark(&mut self.catalog, id, version.0);
@@ -199,6 +205,7 @@ impl Layout {
             &mut self.catalog,
             &self.records[version.0 as usize],
             &self.columns,
+            &self.cell_ids,
             version.0,
         );
         self.versions.end_at(version, commit);
@@ -261,21 +268,28 @@ impl Layout {
     {
         roll_backs_show();
         self.versions.keeps_order();
-        let catalog = &mut self.catalog;
         raise_reopened(
-            catalog,
+            &mut self.catalog,
             &self.versions,
             &self.records,
             &self.columns,
+            &self.cell_ids,
             commit,
         );
         self.versions.roll_back(commit);
         let len = self.versions.len();
-        take_back(&mut self.catalog, &self.records, &mut self.columns, len);
+        take_back(
+            &mut self.catalog,
+            &self.records,
+            &mut self.columns,
+            &self.cell_ids,
+            len,
+        );
         self.records.truncate(len as usize);
         self.catalog.cut(attributes);
         settle_marks(&mut self.catalog, len);
     }
+
     /// Gives up what a version holds that has ended, and its memory. What rows show below its end is then not known.
     pub fn empty_version(&mut self, version: VersionId)
         requires within { version.0 < length self.old.history.versions }
@@ -287,7 +301,7 @@ impl Layout {
         let Some(end) = self.versions.end_of(version) else {
             return;
         };
-        clear_cells(&mut self.columns, self.catalog.len(), version.0);
+        clear_cells(&mut self.columns, &self.cell_ids, version.0);
         self.records[version.0 as usize].clear();
         self.versions.empty_old(version, end);
     }

@@ -6,6 +6,7 @@
 //! Read `specs/Storage.antt` first, then `specs/Documents.antt`, `specs/Placed.antt`, `specs/Shows.antt` and `specs/Changes.antt`.
 #![tactic(auto)]
 
+mod cell_ids;
 mod counting;
 mod grow_fault;
 mod layout;

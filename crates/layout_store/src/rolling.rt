@@ -7,8 +7,10 @@ ghost use Rattle.phys_columns.specs.Cells.{cell_at};
 ghost use Rattle.layout_store.specs.Storage.{record_at, either_side};
 ghost use Rattle.layout_store.specs.Documents.{count_below};
 ghost use Rattle.layout_store.specs.Changes.{AreChanged};
+ghost use Rattle.layout_store.specs.Listed.{AreListed, AreListedAt};
 ghost use Rattle.layout_store.specs.RolledBack.{held_in, is_reopened, raised_by, lowered_by, raised_if, settled};
 
+use crate::cell_ids::CellIds;
 use crate::counting::{lower_all, raise_all};
 use crate::record_place::RecordPlace;
 use attr_catalog::Catalog;
@@ -22,10 +24,12 @@ pub(crate) fn raise_reopened(
     versions: &Versions,
     records: &[RecordPlace],
     columns: &Columns,
+    ids: &CellIds,
     commit: u64,
 )
     requires known { (version id : ℕ) (bytes : List ℕ) → held_in records.now columns.now.cells version id ≡ Some bytes → id < length catalog.old }
     requires apart { (version id : ℕ) (bytes : List ℕ) → value_of id (record_at version records.now) ≡ Some bytes → cell_at id version columns.now.cells ≡ None }
+    requires listed { AreListed ids.now columns.now.cells }
     requires many { length records.now ≡ length versions.now.versions }
     requires room { (id : ℕ) (a : Attribute) → slice_get catalog.old id ≡ Some a → a.count + count_below (λ v. is_reopened commit versions.now.versions v && is_some (held_in records.now columns.now.cells v id)) (length records.now) ≤ most_versions }
     ensures exact { AreChanged (λ id. raised_by (count_below (λ v. is_reopened commit versions.now.versions v && is_some (held_in records.now columns.now.cells v id)) (length records.now))) catalog.old catalog.new }
@@ -36,6 +40,7 @@ pub(crate) fn raise_reopened(
             versions,
             &records[version as usize],
             columns,
+            ids,
             version,
             commit,
         );
@@ -48,16 +53,19 @@ fn raise_if_reopened(
     versions: &Versions,
     stored: &RecordPlace,
     columns: &Columns,
+    ids: &CellIds,
     version: u32,
     commit: u64,
 )
+    requires listed { AreListedAt version ids.now columns.now.cells }
+    requires celled { (id : ℕ) (value : ValueOf) → cell_at id version columns.now.cells ≡ Some value → id < length catalog.old }
     requires known { (id : ℕ) (bytes : List ℕ) → value_of id stored.now ≡ Some bytes → id < length catalog.old }
     requires apart { (id : ℕ) (bytes : List ℕ) → value_of id stored.now ≡ Some bytes → cell_at id version columns.now.cells ≡ None }
     requires room { is_reopened commit versions.now.versions version ≡ true → (id : ℕ) (a : Attribute) → slice_get catalog.old id ≡ Some a → is_some (either_side (value_of id stored.now) (cell_at id version columns.now.cells)) ≡ true → a.count < most_versions }
     ensures exact { AreChanged (λ id. raised_if (is_reopened commit versions.now.versions version && is_some (either_side (value_of id stored.now) (cell_at id version columns.now.cells)))) catalog.old catalog.new }
 {
     if ended_from(versions, version, commit) {
-        raise_all(catalog, stored, columns, version);
+        raise_all(catalog, stored, columns, ids, version);
     }
 }
 
@@ -76,8 +84,10 @@ pub(crate) fn take_back(
     catalog: &mut Catalog,
     records: &[RecordPlace],
     columns: &mut Columns,
+    ids: &CellIds,
     len: u32,
 )
+    requires listed { AreListed ids.now columns.old.cells }
     requires known { (version id : ℕ) (bytes : List ℕ) → held_in records.now columns.old.cells version id ≡ Some bytes → (version < length records.now) × (id < length catalog.old) }
     requires apart { (version id : ℕ) (bytes : List ℕ) → value_of id (record_at version records.now) ≡ Some bytes → cell_at id version columns.old.cells ≡ None }
     requires within { len ≤ length records.now }
@@ -88,20 +98,20 @@ pub(crate) fn take_back(
     ensures kept { (version id : ℕ) → version < len → cell_at id version columns.new.cells ≡ cell_at id version columns.old.cells }
 {
     for version in len..records.len() as u32 {
-        lower_all(catalog, &records[version as usize], columns, version);
-        clear_cells(columns, catalog.len(), version);
+        lower_all(catalog, &records[version as usize], columns, ids, version);
+        clear_cells(columns, ids, version);
     }
 }
 
 /// Clears the cells of a version.
-pub(crate) fn clear_cells(columns: &mut Columns, attributes: u32, version: u32)
-    requires known { (id : ℕ) (value : ValueOf) → cell_at id version columns.old.cells ≡ Some value → id < attributes }
+pub(crate) fn clear_cells(columns: &mut Columns, ids: &CellIds, version: u32)
+    requires listed { AreListedAt version ids.now columns.old.cells }
     ensures gone { (id : ℕ) → cell_at id version columns.new.cells ≡ None }
     ensures kept { (w id : ℕ) → w ≢ version → cell_at id w columns.new.cells ≡ cell_at id w columns.old.cells }
 {
     cells_are_a_map();
-    for id in 0..attributes {
-        columns.clear_cell(AttrId(id), version);
+    for place in 0..ids.len() {
+        columns.clear_cell(AttrId(ids.id(place)), version);
     }
 }
 

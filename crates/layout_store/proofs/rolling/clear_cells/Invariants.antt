@@ -1,6 +1,5 @@
-use Rattle.std.proofs.Common.{ℕ}
 use Rattle.layout_store.proofs.Cleared.{AreClear}
 use Rattle.layout_store.proofs.rolling.clear_cells.Given as goal
 
-abbrev pub invariant-loop-id : goal.invariant-loop-id
-invariant-loop-id l = AreClear l.version l.id l.fn.columns.cells l.columns.cells
+abbrev pub invariant-loop-place : goal.invariant-loop-place
+invariant-loop-place l = AreClear l.version l.ids l.place l.fn.columns.cells l.columns.cells

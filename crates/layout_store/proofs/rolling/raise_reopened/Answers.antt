@@ -9,7 +9,7 @@ use Rattle.layout_store.specs.RolledBack.{held_in, is_reopened, raised_by, raise
 use Rattle.layout_store.proofs.Attributes.{changed-alike}
 use Rattle.layout_store.proofs.Lists.{item-read}
 use Rattle.layout_store.proofs.Recounted.{raised-none, raised-next, raise-room}
-use Rattle.layout_store.proofs.Taken.{stored-known, stored-apart, test-here}
+use Rattle.layout_store.proofs.Taken.{cell-held, stored-known, stored-apart, test-here}
 use Rattle.layout_store.proofs.rolling.raise_reopened.Goals as goal
 
 pub loop-version-init : goal.loop-version-init
@@ -38,6 +38,14 @@ raise_if_reopened-requires-clause-room c = λ back id a at sure.
     test-here c.args.records.now c.args.columns.now.cells k c.index-records-version.result there (is_reopened c.args.commit c.args.versions.now.versions k) id
     ∙ ap (λ (t : Bool). t && is_some (either_side (value_of id c.index-records-version.result) (cell_at id k c.args.columns.now.cells))) back ∙ sure in
     raise-room (λ v i. is_reopened c.args.commit c.args.versions.now.versions v && is_some (held_in c.args.records.now c.args.columns.now.cells v i)) k (length c.args.records.now) 2097152 c.args.catalog.now c.loop-version.catalog c.loop-version.invariant lt c.requires.room id a at test
+
+pub raise_if_reopened-requires-clause-listed : goal.raise_if_reopened-requires-clause-listed
+raise_if_reopened-requires-clause-listed c = c.requires.listed c.loop-version.version
+
+pub raise_if_reopened-requires-clause-celled : goal.raise_if_reopened-requires-clause-celled
+raise_if_reopened-requires-clause-celled c = λ id value e.
+    let held = cell-held c.args.records.now c.args.columns.now.cells c.loop-version.version id value e in
+    omega (arith, c.requires.known c.loop-version.version id held.0 held.1, c.loop-version.invariant.many)
 
 pub loop-version-preserved : goal.loop-version-preserved
 loop-version-preserved c =

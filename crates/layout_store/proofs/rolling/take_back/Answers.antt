@@ -43,14 +43,17 @@ lower_all-requires-clause-counted c = λ id a at sure.
     (λ i. from i && is_some (held-here c.args.records.now c.args.columns.now.cells k c.index-records-version.result there id i)) ∙ sym (ap (λ (o : Option Value). is_some (either_side (value_of id c.index-records-version.result) o)) (c.loop-version.invariant.1.high k id (omega arith))) ∙ sure in
     lower-left (λ v i. nat_le c.args.len v && is_some (held_in c.args.records.now c.args.columns.now.cells v i)) k (length c.args.records.now) c.args.catalog.now c.loop-version.catalog c.loop-version.invariant.0 lt c.requires.held id a at test
 
+pub lower_all-requires-clause-listed : goal.lower_all-requires-clause-listed
+lower_all-requires-clause-listed c = λ id value e. c.requires.listed c.loop-version.version id value (sym (c.loop-version.invariant.1.high c.loop-version.version id (omega arith)) ∙ e)
+
+pub lower_all-requires-clause-celled : goal.lower_all-requires-clause-celled
+lower_all-requires-clause-celled c = λ id value e.
+    let k = c.loop-version.version in
+    let held = cell-held c.args.records.now c.args.columns.now.cells k id value (sym (c.loop-version.invariant.1.high k id (omega arith)) ∙ e) in
+    omega (arith, (c.requires.known k id held.0 held.1).1, c.loop-version.invariant.0.many)
+
 pub clear_cells-requires : goal.clear_cells-requires
-clear_cells-requires c = record {
-  known = λ id value e.
-      let k = c.loop-version.version in
-      let was = sym (c.loop-version.invariant.1.high k id (omega arith)) ∙ e in
-      let held = cell-held c.args.records.now c.args.columns.now.cells k id value was in
-      omega (arith, (c.requires.known k id held.0 held.1).1, c.loop-version.invariant.0.many, c.lower_all.ensures.exact.many, c.len.ensures.exact);
-}
+clear_cells-requires c = record { listed = λ id value e. c.requires.listed c.loop-version.version id value (sym (c.loop-version.invariant.1.high c.loop-version.version id (omega arith)) ∙ e) }
 
 pub loop-version-preserved : goal.loop-version-preserved
 loop-version-preserved c =

@@ -19,19 +19,19 @@ pub read_path-requires-clause-readable : goal.read_path-requires-clause-readable
 read_path-requires-clause-readable c id a at =
     let s : Storage = record { attributes = c.self.inside.catalog; history = c.self.inside.versions; records = c.self.inside.records.items; cells = c.self.inside.columns.cells } in
     let lt : c.args.version.0 < length s.history.versions = omega (arith, c.requires.standing, ap (λ (x : Storage). length x.history.versions) c.self.view_is) in
-    let there = item-read s.records s.records c.args.version.0 c.index-stored.result.now refl (omega (arith, lt, c.self.invariant.placed.recorded)) c.index-stored.ensures in
-    subst (λ (fs : List Field). IfSome (value_of id fs) (AreReadable a.kind)) (record-there s.records c.args.version.0 c.index-stored.result.now there) (can-read s c.self.invariant c.args.version.0 id a at)
+    let there = item-read s.records s.records c.args.version.0 c.index-stored.result.now refl (omega (arith, lt, c.self.invariant.0.placed.recorded)) c.index-stored.ensures in
+    subst (λ (fs : List Field). IfSome (value_of id fs) (AreReadable a.kind)) (record-there s.records c.args.version.0 c.index-stored.result.now there) (can-read s c.self.invariant.0 c.args.version.0 id a at)
 
 pub returns : goal.returns
 returns c =
     let s : Storage = record { attributes = c.self.inside.catalog; history = c.self.inside.versions; records = c.self.inside.records.items; cells = c.self.inside.columns.cells } in
     let v = c.args.version.0 in
     let lt : c.args.version.0 < length s.history.versions = omega (arith, c.requires.standing, ap (λ (x : Storage). length x.history.versions) c.self.view_is) in
-    let there = item-read s.records s.records c.args.version.0 c.index-stored.result.now refl (omega (arith, lt, c.self.invariant.placed.recorded)) c.index-stored.ensures in
+    let there = item-read s.records s.records c.args.version.0 c.index-stored.result.now refl (omega (arith, lt, c.self.invariant.0.placed.recorded)) c.index-stored.ensures in
     let same = record-there s.records c.args.version.0 c.index-stored.result.now there in
     rw (← c.self.view_is) (record {
       exact = λ name wanted is.
           c.read_path.ensures.exact ∙ ap (λ (fs : List Field). first_of (value_by s.attributes fs s.cells c.args.version.0) c.ways.result.now) (sym same)
           ∙ ap (first_of (value_by s.attributes (record_at c.args.version.0 s.records) s.cells c.args.version.0)) (c.ways.ensures.exact ∙ is)
-          ∙ path-value s c.self.invariant c.stored_values_are_told_apart.ensures.back c.args.version.0 lt c.keeps_the_rules.ensures.once c.records_are_their_documents.ensures.law name wanted;
+          ∙ path-value s c.self.invariant.0 c.stored_values_are_told_apart.ensures.back c.args.version.0 lt c.keeps_the_rules.ensures.once c.records_are_their_documents.ensures.law name wanted;
     })
