@@ -1,6 +1,8 @@
+mod AnyOrder
 mod Appended
 mod Ascending
 mod Attributes
+mod ByFields
 mod Cleared
 mod Counted
 mod Cuts

@@ -118,7 +118,7 @@ module _ (fs : List Field) (lawful : AreFields fs) (k id : ℕ) (at : option_map
         let a = get-within first id (known id found.0 found.1) in
         if_at (slice_get cur id) P a.0 (not-yet change (before fs k) first cur id a.0 h no_yet a.1) (so id a.0 a.1 (ap (λ (o : Option (List ℕ)). is_some o) found.1))
 
-take_none : (fs : List Field) → take 0 fs ≡ []
+pub take_none : (fs : List Field) → take 0 fs ≡ []
 take_none [] = refl
 take_none (f ∷ fs) = refl
 

@@ -136,7 +136,15 @@ impl Layout {
         documents_are_maps();
         let alloc = *self.records.allocator();
         let stored = &self.records[version.0 as usize];
-        let document = whole(alloc, &self.catalog, stored, &self.columns, version.0)?;
+        let _lawful = stored.len();
+        let document = whole(
+            alloc,
+            &self.catalog,
+            stored,
+            &self.columns,
+            &self.cell_ids,
+            version.0,
+        )?;
         let _kept = document.len();
         Ok(document)
     }
@@ -257,13 +265,13 @@ impl Layout {
             }
         }
     }
-    /// Takes the newest commit back: its versions, its ends, and the attributes from a number on.
-    pub fn roll_back(&mut self, commit: u64, attributes: u32)
+    /// Takes the newest commit back: its versions and its ends, and the attributes from number `left` on.
+    pub fn roll_back(&mut self, commit: u64, left: u32)
         requires latest { IsLatest commit self.old.history.versions }
         requires above { self.old.history.horizon < commit }
-        requires within { attributes ≤ length self.old.attributes }
-        requires unheld { (version id : ℕ) → attributes ≤ id → IfSome (slice_get self.old.history.versions version) (λ v. v.begin < commit → held self.old version id ≡ None) }
-        ensures exact { HasRolledBack commit attributes self.old self.new }
+        requires within { left ≤ length self.old.attributes }
+        requires unheld { (version id : ℕ) → left ≤ id → IfSome (slice_get self.old.history.versions version) (λ v. v.begin < commit → held self.old version id ≡ None) }
+        ensures exact { HasRolledBack commit left self.old self.new }
         ensures shows { ShowsAsBefore commit self.old self.new }
     {
         roll_backs_show();
@@ -286,7 +294,7 @@ impl Layout {
             len,
         );
         self.records.truncate(len as usize);
-        self.catalog.cut(attributes);
+        self.catalog.cut(left);
         settle_marks(&mut self.catalog, len);
     }
 

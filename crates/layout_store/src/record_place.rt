@@ -67,6 +67,17 @@ impl RecordPlace {
         }
     }
 
+    /// The bytes of the field at a place.
+    pub(crate) fn bytes(&self, place: u32) -> &[u8]
+        requires { place < length self.now }
+        ensures exact { option_map (λ f. f.bytes) (slice_get self.now place) ≡ Some result.now }
+    {
+        match &self.stored {
+            Some(stored) => stored.bytes(place),
+            None => &[],
+        }
+    }
+
     /// Puts in a value under a number that has none.
     pub(crate) fn put(
         &mut self,
