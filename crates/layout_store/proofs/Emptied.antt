@@ -1,12 +1,11 @@
 -- A version that ended is given up: it holds nothing, and no row shows it from the horizon on.
-use Rattle.std.proofs.Common.{◌≡◌, ◌⊎◌, inl, inr, ℕ, zero, suc, ◌<◌, ◌≤◌, ◌&&◌, ◌==◌, max, nat_lt, nat_le, not, Bool, true, false, List, [], ◌∷◌, length, set, Option, Some, None, IfSome, is_some, option_map, option_and_then, unwrap_or, slice_get, position, refl, sym, ap, subst, ◌∙◌, arith, length-set}
+use Rattle.std.proofs.Common.{◌≡◌, ℕ, ◌<◌, ◌≤◌, ◌&&◌, ◌==◌, max, nat_le, not, Bool, true, false, List, [], length, set, Option, Some, None, IfSome, is_some, option_map, option_and_then, slice_get, position, refl, sym, ap, subst, ◌∙◌, arith, length-set}
 use Rattle.std.specs.Option.{option_map_or}
 use Rattle.std.proofs.lemmas.Bool.{le-ltb}
-use Rattle.std.proofs.lemmas.Bool.Decides.{nat_tests}
 use Rattle.std.proofs.lemmas.List.Quantifiers.{position-Some}
 use Rattle.std.proofs.lemmas.List.Elements.{All-nil}
-use Rattle.std.proofs.lemmas.Option.{same_Some, none-some, slice_get_within, get_or_from_slice_get}
-use Rattle.doc_values.specs.Doc.{Fields, IsDocument}
+use Rattle.std.proofs.lemmas.Option.{none-some, slice_get_within, get_or_from_slice_get}
+use Rattle.doc_values.specs.Doc.{IsDocument}
 use Rattle.doc_values.specs.declared.value.Value.{Value}
 use Rattle.reservoir_record.specs.declared.fields.Field.{Field}
 use Rattle.reservoir_record.specs.Finding.{value_of}
@@ -19,10 +18,10 @@ use Rattle.row_versions.specs.declared.version.Version.{Version}
 use Rattle.row_versions.specs.History.{History, version_at, begun, is_seen, is_open, visible, given_up}
 use Rattle.row_versions.specs.History as history
 use Rattle.row_versions.specs.Shows.{EmptiesShow}
-use Rattle.row_versions.proofs.Places.{get-within, get-set, get-set_same, get-set_other}
+use Rattle.row_versions.proofs.Places.{get-within, get-set_same, get-set_other}
 use Rattle.document_records.specs.Limits.{most_weight}
-use Rattle.document_records.specs.StoredDocument.{Pairs, pairs_of, document_stored, IsHeld, IsKept}
-use Rattle.layout_store.specs.Storage.{Storage, record_at, either_side, in_record, in_cell, held}
+use Rattle.document_records.specs.StoredDocument.{pairs_of, document_stored, IsHeld, IsKept}
+use Rattle.layout_store.specs.Storage.{Storage, either_side, in_record, in_cell, held}
 use Rattle.layout_store.specs.Documents.{most_fields, fields_of, is_endless, count_below, holders, counts_of, document_of, document_at, AreDocuments}
 use Rattle.layout_store.specs.Placed.{IsAtHome, IsHome, clean_below, IsCelled, ArePlaced, IsLayout}
 use Rattle.layout_store.specs.Shows.{shown}

@@ -1,8 +1,7 @@
 -- Counts that go up and down by the versions below a bound.
-use Rattle.std.proofs.Common.{◌≡◌, ℕ, zero, suc, ◌+◌, ◌-◌, ◌<◌, ◌≤◌, ◌&&◌, nat_lt, nat_le, Bool, true, false, cond, List, length, Option, Some, slice_get, refl, sym, ap, subst, ◌∙◌, arith}
+use Rattle.std.proofs.Common.{◌≡◌, ℕ, zero, suc, ◌+◌, ◌-◌, ◌<◌, ◌≤◌, ◌&&◌, nat_le, Bool, true, false, cond, List, Some, slice_get, refl, sym, ap, ◌∙◌, arith}
 use Rattle.std.proofs.lemmas.Bool.Decides.{nat_tests}
-use Rattle.std.proofs.lemmas.Option.{slice_get_within}
-use Rattle.attr_catalog.specs.Attribute.{Attribute, lowered}
+use Rattle.attr_catalog.specs.Attribute.{Attribute}
 use Rattle.layout_store.specs.Changes.{AreChanged, lowered_if}
 use Rattle.layout_store.specs.Documents.{count_below}
 use Rattle.layout_store.specs.RolledBack.{counted, raised_by, lowered_by, raised_if}

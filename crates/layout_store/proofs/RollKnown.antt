@@ -1,13 +1,11 @@
 -- What is known at each call of a roll back, of what was lent.
-use Rattle.std.proofs.Common.{◌≡◌, ℕ, ◌+◌, ◌<◌, ◌≤◌, ◌&&◌, nat_le, List, length, take, drop, Option, Some, None, IfSome, is_some, slice_get, refl, sym, ap, subst, ◌∙◌, arith}
-use Rattle.std.specs.Prelude.{All}
+use Rattle.std.proofs.Common.{◌≡◌, ℕ, ◌+◌, ◌<◌, ◌≤◌, ◌&&◌, nat_le, List, length, take, Some, None, IfSome, is_some, slice_get, sym, ap, subst, ◌∙◌, arith}
 use Rattle.std.proofs.lemmas.List.{length-map}
 use Rattle.doc_values.specs.declared.kind.Kind.{Kind}
 use Rattle.reservoir_record.specs.declared.fields.Field.{Field}
 use Rattle.reservoir_record.specs.Finding.{value_of}
 use Rattle.attr_catalog.specs.Attribute.{Attribute}
 use Rattle.phys_columns.specs.Cells.{Cells, cell_at}
-use Rattle.row_versions.specs.declared.version.Version.{Version}
 use Rattle.row_versions.specs.History.{History, rolled_back}
 use Rattle.row_versions.specs.Order.{KeepsOrder}
 use Rattle.row_versions.specs.Shows.{ShowsBefore}
@@ -16,7 +14,7 @@ use Rattle.layout_store.specs.Documents.{count_below, holders}
 use Rattle.layout_store.specs.Placed.{IsLayout}
 use Rattle.layout_store.specs.Changes.{AreChanged}
 use Rattle.layout_store.specs.RolledBack.{settled, counted, raised_by, lowered_by, HasRolledBack, ShowsAsBefore, held_in, is_reopened}
-use Rattle.layout_store.proofs.RollBack.{fewer, back, gone_of, back-room, gone-counted, recounted, cut-unheld, settled-all, rolled-layout, rolled-all, rolled-shows}
+use Rattle.layout_store.proofs.RollBack.{fewer, back, back-room, gone-counted, recounted, settled-all, rolled-layout, rolled-all, rolled-shows}
 
 module _ (s : Storage) (h : IsLayout s) (k : KeepsOrder s.history) (commit left : ℕ)
     (unheld : (version id : ℕ) → left ≤ id → IfSome (slice_get s.history.versions version) (λ v. v.begin < commit → held s version id ≡ None)) where

@@ -1,19 +1,14 @@
 -- The versions from a bound on are counted less one after the other, and their cells cleared.
-use Rattle.std.proofs.Common.{◌≡◌, ℕ, ◌<◌, ◌≤◌, ◌+◌, ◌&&◌, nat_le, Bool, true, false, List, [], length, Option, Some, None, is_some, unwrap_or, slice_get, refl, sym, ap, subst, ◌∙◌, arith}
+use Rattle.std.proofs.Common.{◌≡◌, ℕ, ◌<◌, ◌≤◌, ◌+◌, ◌&&◌, nat_le, Bool, true, false, List, Option, Some, None, is_some, slice_get, refl, ap, ◌∙◌, arith}
 use Rattle.std.proofs.lemmas.Bool.Decides.{nat_tests}
-use Rattle.std.proofs.lemmas.Option.{none-some}
 use Rattle.doc_values.specs.declared.value.Value.{Value}
 use Rattle.reservoir_record.specs.declared.fields.Field.{Field}
 use Rattle.reservoir_record.specs.Finding.{value_of}
-use Rattle.attr_catalog.specs.Attribute.{Attribute}
 use Rattle.document_records.specs.StoredValue.{bytes_of}
 use Rattle.phys_columns.specs.Cells.{Cells, cell_at}
 use Rattle.layout_store.specs.Storage.{record_at, either_side}
-use Rattle.layout_store.specs.Documents.{count_below}
-use Rattle.layout_store.specs.Changes.{AreChanged, lowered_if}
-use Rattle.layout_store.specs.RolledBack.{held_in, raised_if, lowered_by}
-use Rattle.layout_store.proofs.Attributes.{equal_or_not, changed-alike}
-use Rattle.layout_store.proofs.Recounted.{lowered-next, lower-left}
+use Rattle.layout_store.specs.RolledBack.{held_in}
+use Rattle.layout_store.proofs.Attributes.{equal_or_not}
 use Rattle.layout_store.proofs.Sides.{record-there}
 
 -- So far the versions from a bound up to a number have no cells, and all others have theirs.

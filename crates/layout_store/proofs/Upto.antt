@@ -13,7 +13,7 @@ use Rattle.phys_columns.specs.Cells.{Cells, cell_at}
 use Rattle.row_versions.proofs.Places.{get-within}
 use Rattle.layout_store.specs.Listed.{Rises, AreListedAt}
 use Rattle.layout_store.specs.Storage.{either_side}
-use Rattle.layout_store.specs.Changes.{AreChanged, lowered_if}
+use Rattle.layout_store.specs.Changes.{AreChanged}
 use Rattle.layout_store.proofs.Ascending.{among, among-start, among-here, among-other, among-once, among-all}
 use Rattle.layout_store.proofs.Attributes.{at_one, one-changed, changed-twice, changed-alike, changed-none, changed-back, equal_or_not, test_same, test_other}
 use Rattle.layout_store.proofs.Entries.{take_plus, take_all_of}

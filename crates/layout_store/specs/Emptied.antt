@@ -1,5 +1,5 @@
 -- What is left of the storage when a version that ended is given up, and what rows show after that.
-use Rattle.std.specs.Prelude.{◌≡◌, ◌≢◌, ℕ, ◌≤◌, max, [], Option, Some, None, slice_get, slice_set, option_and_then}
+use Rattle.std.specs.Prelude.{◌≡◌, ◌≢◌, ℕ, ◌≤◌, max, [], Some, None, slice_get, slice_set, option_and_then}
 use Rattle.row_versions.specs.History.{given_up}
 use Rattle.row_versions.specs.History as history
 use Rattle.layout_store.specs.Storage.{Storage, in_cell}

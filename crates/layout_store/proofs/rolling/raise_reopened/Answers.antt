@@ -1,5 +1,4 @@
-use Rattle.std.proofs.Common.{◌≡◌, ℕ, ◌<◌, ◌≤◌, ◌&&◌, ◌∙◌, Bool, true, is_some, length, refl, ap, sym, arith, subst}
-use Rattle.attr_catalog.specs.Attribute.{Attribute}
+use Rattle.std.proofs.Common.{◌≡◌, ℕ, ◌<◌, ◌&&◌, ◌∙◌, Bool, true, is_some, length, refl, ap, sym, arith, subst}
 use Rattle.phys_columns.specs.Cells.{cell_at}
 use Rattle.reservoir_record.specs.Finding.{value_of}
 use Rattle.layout_store.specs.Storage.{either_side}

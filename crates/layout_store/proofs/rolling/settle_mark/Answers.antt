@@ -1,6 +1,5 @@
-use Rattle.std.proofs.Common.{◌<◌, ◌≤◌, unwrap_or, ◌≡◌, arith}
+use Rattle.std.proofs.Common.{unwrap_or, ◌≡◌, arith}
 use Rattle.attr_catalog.specs.Attribute.{Attribute}
-use Rattle.attr_catalog.specs.Catalog.{changed}
 use Rattle.row_versions.proofs.Places.{get-within}
 use Rattle.layout_store.proofs.Lists.{seen-of}
 use Rattle.layout_store.proofs.Settled.{settles-gone, settles-stays}

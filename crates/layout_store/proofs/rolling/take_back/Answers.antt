@@ -1,7 +1,6 @@
 use Rattle.std.proofs.Common.{◌≡◌, ℕ, ◌<◌, ◌≤◌, ◌&&◌, ◌∙◌, nat_le, Bool, true, Option, is_some, length, refl, ap, sym, arith, subst}
 use Rattle.std.proofs.lemmas.Bool.Decides.{nat_tests}
 use Rattle.doc_values.specs.declared.value.Value.{Value}
-use Rattle.attr_catalog.specs.Attribute.{Attribute}
 use Rattle.phys_columns.specs.Cells.{cell_at}
 use Rattle.reservoir_record.specs.Finding.{value_of}
 use Rattle.layout_store.specs.Storage.{either_side}
@@ -11,7 +10,7 @@ use Rattle.layout_store.specs.RolledBack.{held_in, lowered_by}
 use Rattle.layout_store.proofs.Attributes.{changed-alike}
 use Rattle.layout_store.proofs.Lists.{item-read}
 use Rattle.layout_store.proofs.Recounted.{lowered-none, lowered-next, lower-left}
-use Rattle.layout_store.proofs.Taken.{AreCleared, cleared-none, cleared-next, cell-held, cleared-all, stored-known, stored-apart, held-here}
+use Rattle.layout_store.proofs.Taken.{cleared-none, cleared-next, cell-held, cleared-all, stored-known, stored-apart, held-here}
 use Rattle.layout_store.proofs.rolling.take_back.Goals as goal
 
 pub loop-version-init : goal.loop-version-init

@@ -1,4 +1,4 @@
-use Rattle.std.proofs.Common.{◌≡◌, ◌<◌, ℕ, length, option_map, refl, ap, ◌∙◌, arith}
+use Rattle.std.proofs.Common.{◌≡◌, ℕ, length, option_map, refl, ap, ◌∙◌, arith}
 use Rattle.phys_columns.specs.Cells.{cell_at}
 use Rattle.document_records.specs.StoredValue.{bytes_of}
 use Rattle.document_records.specs.StoredDocument.{pairs_of, document_with}

@@ -1,5 +1,5 @@
-use Rattle.std.proofs.Common.{◌≡◌, ◌<◌, ℕ, List, Some, IfSome, length, slice_get, ap, sym, subst, ◌∙◌}
-use Rattle.doc_values.specs.Doc.{Fields, with_field}
+use Rattle.std.proofs.Common.{◌≡◌, ◌<◌, ℕ, List, Some, length, slice_get, ap, sym, subst, ◌∙◌}
+use Rattle.doc_values.specs.Doc.{with_field}
 use Rattle.doc_values.specs.declared.kind.Kind.{Kind}
 use Rattle.reservoir_record.specs.declared.fields.Field.{Field}
 use Rattle.reservoir_record.specs.Finding.{value_of}

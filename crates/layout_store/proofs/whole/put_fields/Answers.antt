@@ -1,5 +1,4 @@
-use Rattle.std.proofs.Common.{◌≡◌, ◌<◌, ℕ, List, length, take, ap, sym, subst, ◌∙◌, arith}
-use Rattle.reservoir_record.specs.declared.fields.Field.{Field}
+use Rattle.std.proofs.Common.{◌≡◌, ◌<◌, ℕ, length, take, ap, sym, ◌∙◌, arith}
 use Rattle.document_records.specs.StoredDocument.{pairs_of, document_with}
 use Rattle.document_records.proofs.WholeDocuments.{put_next}
 use Rattle.layout_store.proofs.Entries.{take_all_of}

@@ -1,5 +1,4 @@
-use Rattle.std.proofs.Common.{◌≡◌, ◌<◌, ◌∙◌, Some, length, slice_get, option_and_then, ap, sym, arith}
-use Rattle.std.proofs.lemmas.Option.{slice_get_within}
+use Rattle.std.proofs.Common.{◌≡◌, ◌∙◌, Some, length, option_and_then, ap, sym, arith}
 use Rattle.row_versions.specs.declared.version.Version.{Version}
 use Rattle.row_versions.proofs.Places.{get-within}
 use Rattle.layout_store.specs.Storage.{Storage}
