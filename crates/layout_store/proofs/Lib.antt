@@ -6,6 +6,7 @@ mod ByFields
 mod Cleared
 mod Counted
 mod Cuts
+mod Dropped
 mod Emptied
 mod Empty
 mod Ended

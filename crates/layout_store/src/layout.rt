@@ -1,4 +1,4 @@
-ghost use Rattle.std.specs.Prelude.{◌≡◌, ◌<◌, ◌≤◌, ◌+◌, ◌*◌, ◌⊎◌, ℕ, List, Option, [], Some, None, Ok, Err, IfSome, IfOk, OnOk, OnErr, IsSome, length, slice_get, option_map};
+ghost use Rattle.std.specs.Prelude.{◌≡◌, ◌<◌, ◌≤◌, ◌+◌, ◌*◌, ◌⊎◌, ℕ, List, Option, [], Some, None, Ok, Err, All, map, IfSome, IfOk, OnOk, OnErr, IsSome, length, slice_get, option_map};
 ghost use Rattle.std.specs.FinMap as map;
 ghost use Rattle.doc_values.specs.Weight.{weight_of};
 ghost use Rattle.doc_values.specs.declared.kind.Kind.{Kind as KindOf};
@@ -23,8 +23,9 @@ use crate::pushing::push;
 use crate::reading::read_path;
 use crate::record_place::RecordPlace;
 use crate::rolling::{clear_cells, raise_reopened, settle_marks, take_back};
+use crate::value_walk::ValueWalk;
 use crate::whole::whole;
-use attr_catalog::{Catalog, Home, Path};
+use attr_catalog::{Catalog, Home, Path, Way};
 use doc_values::{AttrId, Doc, ValueRef, documents_are_maps};
 use document_records::{Parts, records_are_their_documents, stored_values_are_told_apart};
 use phys_columns::{Columns, CompareInt, Mask, cells_are_a_map};
@@ -71,9 +72,10 @@ impl Layout {
     ghost use Rattle.layout_store.specs.Shows.{HasWritten, HoldsTheSame, ShowsTheSame};
     ghost use Rattle.layout_store.specs.Numbering.{with_fields};
     ghost use Rattle.layout_store.specs.Changes.{HasStepped, HasEnded, HasAppended};
-    ghost use Rattle.layout_store.specs.Values.{value_held, value_wanted};
+    ghost use Rattle.layout_store.specs.Values.{number_of, value_held, value_wanted};
     ghost use Rattle.layout_store.specs.RolledBack.{HasRolledBack, ShowsAsBefore};
     ghost use Rattle.layout_store.specs.Emptied.{HasEmptied, ShowsFromHorizon};
+    ghost use Rattle.layout_store.specs.Walked.{left_of, value_along};
 
     pub fn new(alloc: Global) -> Layout
         ensures exact { result ≡ record { attributes = []; history = record { versions = []; horizon = 0 }; records = []; cells = map.empty } }
@@ -124,8 +126,29 @@ impl Layout {
         records_are_their_documents();
         stored_values_are_told_apart();
         self.catalog.keeps_the_rules();
+        self.along(version, path.ways())
+    }
+
+    /// The first value to which one of some ways leads in a version.
+    pub(crate) fn along(&self, version: VersionId, ways: &[Way]) -> Option<ValueRef<'_>>
+        requires standing { version.0 < length self.now.history.versions }
+        requires lead { All (λ way. number_of way < length self.now.attributes) ways.now }
+        ensures exact { option_map owned result ≡ value_along self.now ways.now version }
+    {
         let stored = &self.records[version.0 as usize];
-        read_path(&self.catalog, stored, &self.columns, version.0, path.ways())
+        read_path(&self.catalog, stored, &self.columns, version.0, ways)
+    }
+
+    /// The values that versions' documents have under the name of a path, in the order of the versions, lent one by one.
+    pub fn walk<'a>(&'a self, path: &'a Path, versions: &'a [VersionId]) -> ValueWalk<'a>
+        requires standing { All (λ v. v.0 < length self.now.history.versions) versions.now }
+        requires lawful { IsLawful self.now.attributes path.now }
+        ensures exact { (name : List ℕ) (wanted : Option KindOf) → path.entry.now ≡ lawful_path name wanted self.entry.now.attributes → left_of result ≡ map (λ v. value_wanted name wanted (document_at self.entry.now v.0)) versions.entry.now }
+    {
+        records_are_their_documents();
+        stored_values_are_told_apart();
+        self.catalog.keeps_the_rules();
+        ValueWalk::new(self, path.ways(), versions)
     }
 
     /// The version's document.

@@ -16,7 +16,9 @@ mod pushing;
 mod reading;
 mod record_place;
 mod rolling;
+mod value_walk;
 mod whole;
 
 pub use grow_fault::GrowFault;
 pub use layout::Layout;
+pub use value_walk::ValueWalk;
