@@ -1,5 +1,5 @@
 -- What a walk over versions has left.
-use Rattle.std.specs.Prelude.{ℕ, List, map, drop, Option, option_map}
+use Rattle.std.specs.Prelude.{List, map, drop, Option, option_map}
 use Rattle.doc_values.specs.Lent.{owned}
 use Rattle.doc_values.specs.declared.value.Value.{Value}
 use Rattle.doc_values.specs.declared.value_ref.ValueRef.{ValueRef}

@@ -1,8 +1,6 @@
-use Rattle.std.proofs.Common.{◌≡◌, ◌<◌, ◌∙◌, List, Option, option_map, length, ap, sym, subst, arith}
+use Rattle.std.proofs.Common.{◌≡◌, ◌<◌, ◌∙◌, List, option_map, length, ap, sym, arith}
 use Rattle.doc_values.specs.Lent.{owned}
-use Rattle.doc_values.specs.declared.value.Value.{Value}
 use Rattle.attr_catalog.specs.declared.way.Way.{Way}
-use Rattle.attr_catalog.specs.Paths.{IsLawful}
 use Rattle.layout_store.specs.Storage.{Storage}
 use Rattle.layout_store.specs.Walked.{value_along}
 use Rattle.layout_store.proofs.Read.{all-below, path-value}

@@ -1,4 +1,4 @@
-use Rattle.std.proofs.Common.{◌≡◌, ◌+◌, ◌<◌, ◌∷◌, ◌∙◌, Option, length, drop, map, ap, sym, arith}
+use Rattle.std.proofs.Common.{◌+◌, ◌<◌, ◌∷◌, ◌∙◌, Option, length, drop, map, ap, sym, arith}
 use Rattle.doc_values.specs.declared.value.Value.{Value}
 use Rattle.layout_store.specs.Walked.{value_along}
 use Rattle.layout_store.proofs.Dropped.{drop-next}
