@@ -10,6 +10,7 @@ use Rattle.attr_catalog.specs.Attribute.{Attribute}
 use Rattle.row_versions.specs.History.{History}
 use Rattle.phys_columns.specs.Cells.{Cells, cell_at, key_of}
 use Rattle.document_records.specs.StoredDocument.{document_stored, IsHeld}
+use Rattle.layout_store.specs.Listed.{AreListed}
 use Rattle.layout_store.specs.Placed.{IsLayout}
 use Rattle.layout_store.specs.Storage.{Storage, either_side}
 
@@ -43,3 +44,6 @@ empty-layout attributes h records cells a b c d =
     let last : Storage = record { attributes = attributes; history = h; records = records; cells = cells } in
     let same : first ≡ last = (λ i. let s : Storage = record { attributes = sym a i; history = sym b i; records = sym c i; cells = sym d i } in s) in
     subst IsLayout same nothing
+
+pub listed-none : (ids : List ℕ) (cells : Cells) → cells ≡ map.empty → AreListed ids cells
+listed-none ids cells e = subst (λ (x : Cells). AreListed ids x) (sym e) (λ version id value at. absurd (none-some value (sym (no_cell id version) ∙ at)))

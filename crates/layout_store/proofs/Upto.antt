@@ -1,5 +1,5 @@
 -- Attributes that are changed one after another: those of the fields before a place, and those of the cells below a number.
-use Rattle.std.proofs.Common.{◌≡◌, ℕ, zero, suc, ◌+◌, ◌<◌, ◌≤◌, ◌==◌, ◌&&◌, nat_lt, Bool, true, false, cond, List, [], ◌∷◌, length, take, Option, Some, None, IfSome, is_some, option_map, slice_get, refl, sym, ap, subst, ◌∙◌, arith}
+use Rattle.std.proofs.Common.{◌≡◌, ℕ, zero, suc, ◌+◌, ◌<◌, ◌≤◌, ◌==◌, ◌&&◌, nat_lt, Bool, true, false, cond, List, [], ◌∷◌, length, take, get_or, Option, Some, None, IfSome, is_some, option_map, slice_get, refl, sym, ap, subst, ◌∙◌, arith}
 use Rattle.std.specs.Option.{option_or}
 use Rattle.std.proofs.lemmas.Bool.Decides.{nat_tests}
 use Rattle.std.proofs.lemmas.Option.{same_Some, none-some, slice_get_within}
@@ -11,8 +11,10 @@ use Rattle.attr_catalog.specs.Attribute.{Attribute}
 use Rattle.attr_catalog.specs.Catalog.{changed, number}
 use Rattle.phys_columns.specs.Cells.{Cells, cell_at}
 use Rattle.row_versions.proofs.Places.{get-within}
+use Rattle.layout_store.specs.Listed.{Rises, AreListedAt}
 use Rattle.layout_store.specs.Storage.{either_side}
-use Rattle.layout_store.specs.Changes.{AreChanged, lowered_if}
+use Rattle.layout_store.specs.Changes.{AreChanged}
+use Rattle.layout_store.proofs.Ascending.{among, among-start, among-here, among-other, among-once, among-all}
 use Rattle.layout_store.proofs.Attributes.{at_one, one-changed, changed-twice, changed-alike, changed-none, changed-back, equal_or_not, test_same, test_other}
 use Rattle.layout_store.proofs.Entries.{take_plus, take_all_of}
 use Rattle.layout_store.proofs.Fields.{value-here, value-later, value-append}
@@ -25,9 +27,9 @@ where_so change test i a = cond (test i) (change a) a
 abbrev pub before : List Field → ℕ → ℕ → Bool
 before fs k i = is_some (value_of i (take k fs))
 
--- A number is below a bound, and has a cell.
-abbrev pub below : Cells → ℕ → ℕ → ℕ → Bool
-below cells version k i = nat_lt i k && is_some (cell_at i version cells)
+-- A number is listed before a place, and has a cell.
+abbrev pub listed : List ℕ → Cells → ℕ → ℕ → ℕ → Bool
+listed ids cells version k i = among ids k i && is_some (cell_at i version cells)
 
 -- ---- one more
 
@@ -116,7 +118,7 @@ module _ (fs : List Field) (lawful : AreFields fs) (k id : ℕ) (at : option_map
         let a = get-within first id (known id found.0 found.1) in
         if_at (slice_get cur id) P a.0 (not-yet change (before fs k) first cur id a.0 h no_yet a.1) (so id a.0 a.1 (ap (λ (o : Option (List ℕ)). is_some o) found.1))
 
-take_none : (fs : List Field) → take 0 fs ≡ []
+pub take_none : (fs : List Field) → take 0 fs ≡ []
 take_none [] = refl
 take_none (f ∷ fs) = refl
 
@@ -128,7 +130,7 @@ fields-all change fs first last h = changed-alike (where_so change (before fs (l
 
 -- ---- cells
 
-module _ (cells : Cells) (version k : ℕ) where
+module _ (k : ℕ) where
   same_below : (i : ℕ) → (i ≡ k → ⊥) → nat_lt i (k + 1) ≡ nat_lt i k
   same_below i ne = by (nat_lt i k) refl
     where
@@ -149,70 +151,107 @@ module _ (cells : Cells) (version k : ℕ) where
   below_more : nat_lt k (k + 1) ≡ true
   below_more = let lt : k < k + 1 = omega arith in grind (arith, nat_tests)
 
-  module _ (change : Attribute → Attribute) (first cur : List Attribute) (h : AreChanged (where_so change (below cells version k)) first cur) where
-    none_yet : below cells version k k ≡ false
-    none_yet = ap (λ (t : Bool). t && is_some (cell_at k version cells)) not_itself
+-- ---- cells
 
-    pub cell-next : k < length first → is_some (cell_at k version cells) ≡ true → AreChanged (where_so change (below cells version (k + 1))) first (changed change (number k) cur)
-    cell-next lt has =
-        one-more change (below cells version k) (below cells version (k + 1)) first cur k h (omega (arith, h.many)) none_yet (ap (λ (t : Bool). t && is_some (cell_at k version cells)) below_more ∙ has)
-        (λ i ne. ap (λ (t : Bool). t && is_some (cell_at i version cells)) (same_below i ne))
+some_of : {X : Type 0} (o : Option X) → is_some o ≡ true → (x : X) × (o ≡ Some x)
+some_of None e = absurd (cc)
+some_of (Some x) e = (x, refl)
 
-    pub cell-past : is_some (cell_at k version cells) ≡ false → AreChanged (where_so change (below cells version (k + 1))) first cur
-    cell-past lacks =
-        changed-alike (where_so change (below cells version k)) (where_so change (below cells version (k + 1))) first cur h
-        (λ i a at. ap (λ (t : Bool). cond t (change a) a) (equal_or_not i k (below cells version k i ≡ below cells version (k + 1) i)
-        (λ e. ap (below cells version k) e ∙ none_yet ∙ sym (ap (below cells version (k + 1)) e ∙ ap (λ (t : Bool). t && is_some (cell_at k version cells)) below_more ∙ lacks))
-        (λ ne. sym (ap (λ (t : Bool). t && is_some (cell_at i version cells)) (same_below i ne)))))
+module _ (ids : List ℕ) (rises : Rises ids) (cells : Cells) (version k x : ℕ) (lt : k < length ids) (is : x ≡ get_or ids k 0) where
+  none_yet : listed ids cells version k x ≡ false
+  none_yet = ap (λ (t : Bool). t && is_some (cell_at x version cells)) (ap (among ids k) is ∙ among-once ids k rises lt)
 
-    pub cell-now : (P : Attribute → Type 0) → k < length first → is_some (cell_at k version cells) ≡ true → ((i : ℕ) (a : Attribute) → slice_get first i ≡ Some a → is_some (cell_at i version cells) ≡ true → P a) → IfSome (slice_get cur k) P
-    cell-now P lt has so =
-        let a = get-within first k lt in
-        if_at (slice_get cur k) P a.0 (not-yet change (below cells version k) first cur k a.0 h none_yet a.1) (so k a.0 a.1 has)
+  now : among ids (k + 1) x ≡ true
+  now = ap (among ids (k + 1)) is ∙ among-here ids k lt
 
--- one number more, whether or not it has a cell
-pub cell-step : (change : Attribute → Attribute) (cells : Cells) (version k : ℕ) (first cur new : List Attribute) → AreChanged (where_so change (below cells version k)) first cur → k < length first
-    → new ≡ cond (is_some (cell_at k version cells)) (changed change (number k) cur) cur → AreChanged (where_so change (below cells version (k + 1))) first new
-cell-step change cells version k first cur new h lt is = by (is_some (cell_at k version cells)) refl is
+  other : (i : ℕ) → (i ≡ x → ⊥) → listed ids cells version (k + 1) i ≡ listed ids cells version k i
+  other i ne = ap (λ (t : Bool). t && is_some (cell_at i version cells)) (among-other ids k i lt (λ e. ne (e ∙ sym is)))
+
+  pub cell-standing : (n : ℕ) → ((id : ℕ) (value : Value) → cell_at id version cells ≡ Some value → id < n) → is_some (cell_at x version cells) ≡ true → x < n
+  cell-standing n celled has = let v = some_of (cell_at x version cells) has in celled x v.0 v.1
+
+  module _ (change : Attribute → Attribute) (first cur : List Attribute) (h : AreChanged (where_so change (listed ids cells version k)) first cur) where
+    cell_next : x < length first → is_some (cell_at x version cells) ≡ true → AreChanged (where_so change (listed ids cells version (k + 1))) first (changed change (number x) cur)
+    cell_next less has =
+        one-more change (listed ids cells version k) (listed ids cells version (k + 1)) first cur x h (omega (arith, h.many, less)) none_yet (ap (λ (t : Bool). t && is_some (cell_at x version cells)) now ∙ has) other
+
+    cell_past : is_some (cell_at x version cells) ≡ false → AreChanged (where_so change (listed ids cells version (k + 1))) first cur
+    cell_past lacks =
+        changed-alike (where_so change (listed ids cells version k)) (where_so change (listed ids cells version (k + 1))) first cur h
+        (λ i a at. ap (λ (t : Bool). cond t (change a) a) (equal_or_not i x (listed ids cells version k i ≡ listed ids cells version (k + 1) i)
+        (λ e. ap (listed ids cells version k) e ∙ none_yet ∙ sym (ap (listed ids cells version (k + 1)) e ∙ ap (λ (t : Bool). t && is_some (cell_at x version cells)) now ∙ lacks))
+        (λ ne. sym (other i ne))))
+
+    pub cell-now : (P : Attribute → Type 0) → ((id : ℕ) (value : Value) → cell_at id version cells ≡ Some value → id < length first) → is_some (cell_at x version cells) ≡ true
+        → ((i : ℕ) (a : Attribute) → slice_get first i ≡ Some a → is_some (cell_at i version cells) ≡ true → P a) → IfSome (slice_get cur x) P
+    cell-now P celled has so =
+        let a = get-within first x (cell-standing (length first) celled has) in
+        if_at (slice_get cur x) P a.0 (not-yet change (listed ids cells version k) first cur x a.0 h none_yet a.1) (so x a.0 a.1 has)
+
+    -- one number more, whether or not it has a cell
+    pub cell-step : (new : List Attribute) → ((id : ℕ) (value : Value) → cell_at id version cells ≡ Some value → id < length first) → new ≡ cond (is_some (cell_at x version cells)) (changed change (number x) cur) cur
+        → AreChanged (where_so change (listed ids cells version (k + 1))) first new
+    cell-step new celled put = by (is_some (cell_at x version cells)) refl put
+      where
+        by : (t : Bool) → is_some (cell_at x version cells) ≡ t → new ≡ cond t (changed change (number x) cur) cur → AreChanged (where_so change (listed ids cells version (k + 1))) first new
+        by true e put = subst (λ (xs : List Attribute). AreChanged (where_so change (listed ids cells version (k + 1))) first xs) (sym put) (cell_next (cell-standing (length first) celled e) e)
+        by false e put = subst (λ (xs : List Attribute). AreChanged (where_so change (listed ids cells version (k + 1))) first xs) (sym put) (cell_past e)
+
+pub cells-none : (change : Attribute → Attribute) (ids : List ℕ) (cells : Cells) (version : ℕ) (first : List Attribute) → AreChanged (where_so change (listed ids cells version 0)) first first
+cells-none change ids cells version first = changed-none (where_so change (listed ids cells version 0)) first (λ i a. ap (λ (t : Bool). cond (t && is_some (cell_at i version cells)) (change a) a) (among-start ids i))
+
+pub cells-all : (change : Attribute → Attribute) (ids : List ℕ) (cells : Cells) (version n : ℕ) (first last : List Attribute) → length ids ≤ n → AreListedAt version ids cells → AreChanged (where_so change (listed ids cells version n)) first last → AreChanged (where_so change (λ i. is_some (cell_at i version cells))) first last
+cells-all change ids cells version n first last le all h =
+    changed-alike (where_so change (listed ids cells version n)) (where_so change (λ i. is_some (cell_at i version cells))) first last h
+    (λ i a at. ap (λ (t : Bool). cond t (change a) a) (by i (cell_at i version cells) refl))
   where
-    by : (t : Bool) → is_some (cell_at k version cells) ≡ t → new ≡ cond t (changed change (number k) cur) cur → AreChanged (where_so change (below cells version (k + 1))) first new
-    by true e is = subst (λ (xs : List Attribute). AreChanged (where_so change (below cells version (k + 1))) first xs) (sym is) (cell-next cells version k change first cur h lt e)
-    by false e is = subst (λ (xs : List Attribute). AreChanged (where_so change (below cells version (k + 1))) first xs) (sym is) (cell-past cells version k change first cur h e)
+    by : (i : ℕ) (o : Option Value) → cell_at i version cells ≡ o → among ids n i && is_some o ≡ is_some o
+    by i None e = none_of (among ids n i)
+      where
+        none_of : (b : Bool) → b && false ≡ false
+        none_of true = refl
+        none_of false = refl
+    by i (Some value) e = ap (λ (t : Bool). t && true) (among-all ids n i le (all i value e))
 
-pub cells-none : (change : Attribute → Attribute) (cells : Cells) (version : ℕ) (first : List Attribute) → AreChanged (where_so change (below cells version 0)) first first
-cells-none change cells version first = changed-none (where_so change (below cells version 0)) first (λ i a. let e : nat_lt i 0 ≡ false = grind (arith, nat_tests) in ap (λ (t : Bool). cond (t && is_some (cell_at i version cells)) (change a) a) e)
+-- ---- numbers alone
 
-pub cells-all : (change : Attribute → Attribute) (cells : Cells) (version n : ℕ) (first last : List Attribute) → length first ≤ n → AreChanged (where_so change (below cells version n)) first last → AreChanged (where_so change (λ i. is_some (cell_at i version cells))) first last
-cells-all change cells version n first last le h =
-    changed-alike (where_so change (below cells version n)) (where_so change (λ i. is_some (cell_at i version cells))) first last h
-    (λ i a at. let lt = slice_get_within first i a at in let less : i < n = omega (arith, lt) in let e : nat_lt i n ≡ true = grind (arith, nat_tests) in ap (λ (t : Bool). cond (t && is_some (cell_at i version cells)) (change a) a) e)
+pub numbers-none : (change : Attribute → Attribute) (first : List Attribute) → AreChanged (where_so change (λ i. nat_lt i 0)) first first
+numbers-none change first = changed-none (where_so change (λ i. nat_lt i 0)) first (λ i a. let e : nat_lt i 0 ≡ false = grind (arith, nat_tests) in ap (λ (t : Bool). cond t (change a) a) e)
+
+pub number-next : (change : Attribute → Attribute) (k : ℕ) (first cur : List Attribute) → AreChanged (where_so change (λ i. nat_lt i k)) first cur → k < length first → AreChanged (where_so change (λ i. nat_lt i (k + 1))) first (changed change (number k) cur)
+number-next change k first cur h lt = one-more change (λ i. nat_lt i k) (λ i. nat_lt i (k + 1)) first cur k h (omega (arith, h.many)) (not_itself k) (below_more k) (λ i ne. same_below k i ne)
+
+pub numbers-all : (change : Attribute → Attribute) (n : ℕ) (first last : List Attribute) → length first ≤ n → AreChanged (where_so change (λ i. nat_lt i n)) first last → AreChanged (λ i. change) first last
+numbers-all change n first last le h =
+    changed-alike (where_so change (λ i. nat_lt i n)) (λ i. change) first last h
+    (λ i a at. let lt = slice_get_within first i a at in let less : i < n = omega (arith, lt) in let e : nat_lt i n ≡ true = grind (arith, nat_tests) in ap (λ (t : Bool). cond t (change a) a) e)
 
 -- ---- both sides
 
-pub both-lowered : (fs : List Field) (cells : Cells) (version : ℕ) (first middle last : List Attribute) → ((i : ℕ) (bytes : List ℕ) → value_of i fs ≡ Some bytes → cell_at i version cells ≡ None)
-    → AreChanged (λ i. lowered_if (is_some (value_of i fs))) first middle → AreChanged (λ i. lowered_if (is_some (cell_at i version cells))) middle last → AreChanged (λ i. lowered_if (is_some (either_side (value_of i fs) (cell_at i version cells)))) first last
-both-lowered fs cells version first middle last apart h k =
-    changed-alike (λ i a. lowered_if (is_some (cell_at i version cells)) (lowered_if (is_some (value_of i fs)) a)) (λ i. lowered_if (is_some (either_side (value_of i fs) (cell_at i version cells)))) first last
-    (changed-twice (λ i. lowered_if (is_some (value_of i fs))) (λ i. lowered_if (is_some (cell_at i version cells))) first middle last h k)
+pub both-changed : (change : Attribute → Attribute) (fs : List Field) (cells : Cells) (version : ℕ) (first middle last : List Attribute) → ((i : ℕ) (bytes : List ℕ) → value_of i fs ≡ Some bytes → cell_at i version cells ≡ None)
+    → AreChanged (where_so change (λ i. is_some (value_of i fs))) first middle → AreChanged (where_so change (λ i. is_some (cell_at i version cells))) middle last → AreChanged (where_so change (λ i. is_some (either_side (value_of i fs) (cell_at i version cells)))) first last
+both-changed change fs cells version first middle last apart h k =
+    changed-alike (λ i a. where_so change (λ j. is_some (cell_at j version cells)) i (where_so change (λ j. is_some (value_of j fs)) i a)) (where_so change (λ i. is_some (either_side (value_of i fs) (cell_at i version cells)))) first last
+    (changed-twice (where_so change (λ i. is_some (value_of i fs))) (where_so change (λ i. is_some (cell_at i version cells))) first middle last h k)
     (λ i a at. by i a (value_of i fs) refl (cell_at i version cells) refl)
   where
-    by : (i : ℕ) (a : Attribute) (r : Option (List ℕ)) → value_of i fs ≡ r → (c : Option Value) → cell_at i version cells ≡ c → lowered_if (is_some c) (lowered_if (is_some r) a) ≡ lowered_if (is_some (either_side r c)) a
+    by : (i : ℕ) (a : Attribute) (r : Option (List ℕ)) → value_of i fs ≡ r → (c : Option Value) → cell_at i version cells ≡ c → cond (is_some c) (change (cond (is_some r) (change a) a)) (cond (is_some r) (change a) a) ≡ cond (is_some (either_side r c)) (change a) a
     by i a None e None f = refl
     by i a None e (Some v) f = refl
     by i a (Some b) e None f = refl
     by i a (Some b) e (Some v) f = absurd (none-some v (sym (apart i b e) ∙ f))
 
--- what is lowered by its cell was not lowered by its record
-pub still-counted : (fs : List Field) (cells : Cells) (version : ℕ) (first middle : List Attribute) → ((i : ℕ) (bytes : List ℕ) → value_of i fs ≡ Some bytes → cell_at i version cells ≡ None) → AreChanged (λ i. lowered_if (is_some (value_of i fs))) first middle
-    → ((i : ℕ) (a : Attribute) → slice_get first i ≡ Some a → is_some (either_side (value_of i fs) (cell_at i version cells)) ≡ true → 0 < a.count) → (i : ℕ) (a : Attribute) → slice_get middle i ≡ Some a → is_some (cell_at i version cells) ≡ true → 0 < a.count
-still-counted fs cells version first middle apart h so i a at has =
-    let b = changed-back (λ j. lowered_if (is_some (value_of j fs))) first middle h i a at in
+-- what is changed by its cell was not changed by its record
+pub still-so : (change : Attribute → Attribute) (P : Attribute → Type 0) (fs : List Field) (cells : Cells) (version : ℕ) (first middle : List Attribute) → ((i : ℕ) (bytes : List ℕ) → value_of i fs ≡ Some bytes → cell_at i version cells ≡ None) → AreChanged (where_so change (λ i. is_some (value_of i fs))) first middle
+    → ((i : ℕ) (a : Attribute) → slice_get first i ≡ Some a → is_some (either_side (value_of i fs) (cell_at i version cells)) ≡ true → P a) → (i : ℕ) (a : Attribute) → slice_get middle i ≡ Some a → is_some (cell_at i version cells) ≡ true → P a
+still-so change P fs cells version first middle apart h so i a at has =
+    let b = changed-back (where_so change (λ j. is_some (value_of j fs))) first middle h i a at in
     by b.0 b.1 b.2 (value_of i fs) refl (cell_at i version cells) refl has
   where
-    by : (b : Attribute) → slice_get first i ≡ Some b → a ≡ lowered_if (is_some (value_of i fs)) b → (r : Option (List ℕ)) → value_of i fs ≡ r → (c : Option Value) → cell_at i version cells ≡ c → is_some c ≡ true → 0 < a.count
+    by : (b : Attribute) → slice_get first i ≡ Some b → a ≡ where_so change (λ j. is_some (value_of j fs)) i b → (r : Option (List ℕ)) → value_of i fs ≡ r → (c : Option Value) → cell_at i version cells ≡ c → is_some c ≡ true → P a
     by b there is r e None f sure = absurd (let both : false ≡ true = sure in cc)
     by b there is None e (Some v) f sure =
-        let same : a ≡ b = is ∙ ap (λ (o : Option (List ℕ)). lowered_if (is_some o) b) e in
+        let same : a ≡ b = is ∙ ap (λ (o : Option (List ℕ)). cond (is_some o) (change b) b) e in
         let test : is_some (either_side (value_of i fs) (cell_at i version cells)) ≡ true = (λ k. is_some (either_side (e k) (f k))) in
-        subst (λ (x : Attribute). 0 < x.count) (sym same) (so i b there test)
+        subst P (sym same) (so i b there test)
     by b there is (Some bytes) e (Some v) f sure = absurd (none-some v (sym (apart i bytes e) ∙ f))

@@ -7,3 +7,7 @@ pub mod Changes
 pub mod Values
 pub mod Moved
 pub mod Along
+pub mod Walked
+pub mod RolledBack
+pub mod Emptied
+pub mod Listed

@@ -1,12 +1,11 @@
 -- What is read of a version: the value of an attribute, and that of a name.
-use Rattle.std.specs.Prelude.{◌≡◌, ℕ, List, Option, Some, None, option_map, option_and_then, slice_get, if◌then◌else◌}
+use Rattle.std.specs.Prelude.{ℕ, List, Option, Some, None, option_map, option_and_then, slice_get, if◌then◌else◌}
 use Rattle.std.specs.Option.{option_map_or}
 use Rattle.doc_values.specs.Doc.{Fields, value_at}
 use Rattle.doc_values.specs.Order.{same_kind}
 use Rattle.doc_values.specs.Value.{kind_of}
 use Rattle.doc_values.specs.declared.kind.Kind.{Kind}
 use Rattle.doc_values.specs.declared.value.Value.{Value}
-use Rattle.attr_catalog.specs.Attribute.{Attribute}
 use Rattle.attr_catalog.specs.declared.way.Way.{Way}
 use Rattle.attr_catalog.specs.declared.way.Way.TheVariants as way
 use Rattle.document_records.specs.StoredValue.{value_in}

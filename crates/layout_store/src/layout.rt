@@ -1,4 +1,4 @@
-ghost use Rattle.std.specs.Prelude.{◌≡◌, ◌<◌, ◌≤◌, ◌+◌, ◌*◌, ◌⊎◌, ℕ, List, Option, [], Some, None, Ok, Err, IfSome, IfOk, OnOk, OnErr, IsSome, length, slice_get, option_map};
+ghost use Rattle.std.specs.Prelude.{◌≡◌, ◌<◌, ◌≤◌, ◌+◌, ◌*◌, ◌⊎◌, ℕ, List, Option, [], Some, None, Ok, Err, All, map, IfSome, IfOk, OnOk, OnErr, IsSome, length, slice_get, option_map};
 ghost use Rattle.std.specs.FinMap as map;
 ghost use Rattle.doc_values.specs.Weight.{weight_of};
 ghost use Rattle.doc_values.specs.declared.kind.Kind.{Kind as KindOf};
@@ -14,18 +14,24 @@ ghost use Rattle.doc_values.specs.Lent.{owned};
 ghost use Rattle.document_records.specs.Limits.{most_weight};
 ghost use Rattle.document_records.specs.StoredDocument.{pairs_of};
 
+use crate::cell_ids::CellIds;
 use crate::counting::{lower_all, write_all};
 use crate::grow_fault::GrowFault;
 use crate::moving::{move_home, step_mark};
 use crate::numbering::record_of;
 use crate::pushing::push;
 use crate::reading::read_path;
+use crate::record_place::RecordPlace;
+use crate::rolling::{clear_cells, raise_reopened, settle_marks, take_back};
+use crate::value_walk::ValueWalk;
 use crate::whole::whole;
-use attr_catalog::{Catalog, Home, Path};
+use attr_catalog::{Catalog, Home, Path, Way};
 use doc_values::{AttrId, Doc, ValueRef, documents_are_maps};
-use document_records::{Parts, Record, records_are_their_documents, stored_values_are_told_apart};
+use document_records::{Parts, records_are_their_documents, stored_values_are_told_apart};
 use phys_columns::{Columns, CompareInt, Mask, cells_are_a_map};
-use row_versions::{VersionId, Versions, appends_show, endings_show};
+use row_versions::{
+    VersionId, Versions, appends_show, empties_show, endings_show, roll_backs_show,
+};
 use std::alloc::{AllocError, Global};
 use std::marker::Model;
 
@@ -34,8 +40,9 @@ use std::marker::Model;
 pub struct Layout {
     catalog: Catalog,
     versions: Versions,
-    records: Vec<Record>,
+    records: Vec<RecordPlace>,
     columns: Columns,
+    cell_ids: CellIds,
     // Their memory serves many documents.
     entries: Vec<(u32, usize)>,
     parts: Parts,
@@ -47,6 +54,7 @@ impl Model for Layout {
     ghost use Rattle.doc_values.specs.contracts.value.Value as of_value;
     ghost use Rattle.layout_store.specs.Storage.{Storage};
     ghost use Rattle.layout_store.specs.Placed.{IsLayout};
+    ghost use Rattle.layout_store.specs.Listed.{AreListed};
 
     ghost Value = { Storage };
 
@@ -54,7 +62,7 @@ impl Model for Layout {
 
     ghost view = { λ l. record { attributes = l.catalog; history = l.versions; records = l.records.items; cells = l.columns.cells } };
 
-    ghost invariant = { λ l. IsLayout (record { attributes = l.catalog; history = l.versions; records = l.records.items; cells = l.columns.cells }) };
+    ghost invariant = { λ l. IsLayout (record { attributes = l.catalog; history = l.versions; records = l.records.items; cells = l.columns.cells }) × AreListed l.cell_ids l.columns.cells };
 }
 
 impl Layout {
@@ -64,7 +72,10 @@ impl Layout {
     ghost use Rattle.layout_store.specs.Shows.{HasWritten, HoldsTheSame, ShowsTheSame};
     ghost use Rattle.layout_store.specs.Numbering.{with_fields};
     ghost use Rattle.layout_store.specs.Changes.{HasStepped, HasEnded, HasAppended};
-    ghost use Rattle.layout_store.specs.Values.{value_held, value_wanted};
+    ghost use Rattle.layout_store.specs.Values.{number_of, value_held, value_wanted};
+    ghost use Rattle.layout_store.specs.RolledBack.{HasRolledBack, ShowsAsBefore};
+    ghost use Rattle.layout_store.specs.Emptied.{HasEmptied, ShowsFromHorizon};
+    ghost use Rattle.layout_store.specs.Walked.{left_of, value_along};
 
     pub fn new(alloc: Global) -> Layout
         ensures exact { result ≡ record { attributes = []; history = record { versions = []; horizon = 0 }; records = []; cells = map.empty } }
@@ -73,11 +84,13 @@ impl Layout {
         let versions = Versions::new(alloc);
         let records = Vec::new(alloc);
         let columns = Columns::new(alloc);
+        let cell_ids = CellIds::new(alloc);
         Layout {
             catalog,
             versions,
             records,
             columns,
+            cell_ids,
             entries: Vec::new(alloc),
             parts: Parts::new(alloc),
         }
@@ -113,8 +126,29 @@ impl Layout {
         records_are_their_documents();
         stored_values_are_told_apart();
         self.catalog.keeps_the_rules();
+        self.along(version, path.ways())
+    }
+
+    /// The first value to which one of some ways leads in a version.
+    pub(crate) fn along(&self, version: VersionId, ways: &[Way]) -> Option<ValueRef<'_>>
+        requires standing { version.0 < length self.now.history.versions }
+        requires lead { All (λ way. number_of way < length self.now.attributes) ways.now }
+        ensures exact { option_map owned result ≡ value_along self.now ways.now version }
+    {
         let stored = &self.records[version.0 as usize];
-        read_path(&self.catalog, stored, &self.columns, version.0, path.ways())
+        read_path(&self.catalog, stored, &self.columns, version.0, ways)
+    }
+
+    /// The values that versions' documents have under the name of a path, in the order of the versions, lent one by one.
+    pub fn walk<'a>(&'a self, path: &'a Path, versions: &'a [VersionId]) -> ValueWalk<'a>
+        requires standing { All (λ v. v.0 < length self.now.history.versions) versions.now }
+        requires lawful { IsLawful self.now.attributes path.now }
+        ensures exact { (name : List ℕ) (wanted : Option KindOf) → path.entry.now ≡ lawful_path name wanted self.entry.now.attributes → left_of result ≡ map (λ v. value_wanted name wanted (document_at self.entry.now v.0)) versions.entry.now }
+    {
+        records_are_their_documents();
+        stored_values_are_told_apart();
+        self.catalog.keeps_the_rules();
+        ValueWalk::new(self, path.ways(), versions)
     }
 
     /// The version's document.
@@ -125,7 +159,15 @@ impl Layout {
         documents_are_maps();
         let alloc = *self.records.allocator();
         let stored = &self.records[version.0 as usize];
-        let document = whole(alloc, &self.catalog, stored, &self.columns, version.0)?;
+        let _lawful = stored.len();
+        let document = whole(
+            alloc,
+            &self.catalog,
+            stored,
+            &self.columns,
+            &self.cell_ids,
+            version.0,
+        )?;
         let _kept = document.len();
         Ok(document)
     }
@@ -174,6 +216,7 @@ impl Layout {
         let alloc = *self.records.allocator();
         let kind = self.catalog.kind(id);
         let home = self.catalog.home(id);
+        self.cell_ids.add(id.0)?;
         let stored = &mut self.records[version.0 as usize];
         move_home(alloc, home, kind, stored, &mut self.columns, id, version.0)?;
         step_mark(&mut self.catalog, id, version.0);
@@ -193,6 +236,7 @@ impl Layout {
             &mut self.catalog,
             &self.records[version.0 as usize],
             &self.columns,
+            &self.cell_ids,
             version.0,
         );
         self.versions.end_at(version, commit);
@@ -243,5 +287,53 @@ impl Layout {
                 Err(fault)
             }
         }
+    }
+    /// Takes the newest commit back: its versions and its ends, and the attributes from number `left` on.
+    pub fn roll_back(&mut self, commit: u64, left: u32)
+        requires latest { IsLatest commit self.old.history.versions }
+        requires above { self.old.history.horizon < commit }
+        requires within { left ≤ length self.old.attributes }
+        requires unheld { (version id : ℕ) → left ≤ id → IfSome (slice_get self.old.history.versions version) (λ v. v.begin < commit → held self.old version id ≡ None) }
+        ensures exact { HasRolledBack commit left self.old self.new }
+        ensures shows { ShowsAsBefore commit self.old self.new }
+    {
+        roll_backs_show();
+        self.versions.keeps_order();
+        raise_reopened(
+            &mut self.catalog,
+            &self.versions,
+            &self.records,
+            &self.columns,
+            &self.cell_ids,
+            commit,
+        );
+        self.versions.roll_back(commit);
+        let len = self.versions.len();
+        take_back(
+            &mut self.catalog,
+            &self.records,
+            &mut self.columns,
+            &self.cell_ids,
+            len,
+        );
+        self.records.truncate(len as usize);
+        self.catalog.cut(left);
+        settle_marks(&mut self.catalog, len);
+    }
+
+    /// Gives up what a version holds that has ended, and its memory. What rows show below its end is then not known.
+    pub fn empty_version(&mut self, version: VersionId)
+        requires within { version.0 < length self.old.history.versions }
+        requires ended { IfSome (slice_get self.old.history.versions version.0) (λ v. IsSome v.end) }
+        ensures exact { HasEmptied version.0 self.old self.new }
+        ensures shows { ShowsFromHorizon self.old self.new }
+    {
+        empties_show();
+        let Some(end) = self.versions.end_of(version) else {
+            return;
+        };
+        clear_cells(&mut self.columns, &self.cell_ids, version.0);
+        self.records[version.0 as usize].clear();
+        self.versions.empty_old(version, end);
     }
 }

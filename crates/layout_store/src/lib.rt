@@ -6,6 +6,7 @@
 //! Read `specs/Storage.antt` first, then `specs/Documents.antt`, `specs/Placed.antt`, `specs/Shows.antt` and `specs/Changes.antt`.
 #![tactic(auto)]
 
+mod cell_ids;
 mod counting;
 mod grow_fault;
 mod layout;
@@ -13,7 +14,11 @@ mod moving;
 mod numbering;
 mod pushing;
 mod reading;
+mod record_place;
+mod rolling;
+mod value_walk;
 mod whole;
 
 pub use grow_fault::GrowFault;
 pub use layout::Layout;
+pub use value_walk::ValueWalk;

@@ -2,17 +2,16 @@ ghost use Rattle.std.specs.Prelude.{◌≡◌, ◌<◌, ◌≤◌, ◌+◌, None
 ghost use Rattle.attr_catalog.specs.Catalog.{changed, most_versions};
 ghost use Rattle.doc_values.specs.Value.{IsStorable};
 ghost use Rattle.reservoir_record.specs.Spelling.{values, AreFields};
-ghost use Rattle.reservoir_record.specs.Editing.{with_field};
 ghost use Rattle.reservoir_record.specs.Finding.{value_of};
 ghost use Rattle.phys_columns.specs.Cells.{cell_at, AreOfKind};
-ghost use Rattle.doc_values.specs.Lent.{owned};
 ghost use Rattle.document_records.specs.StoredValue.{bytes_of, AreReadable};
 ghost use Rattle.layout_store.specs.Changes.{stepped};
 ghost use Rattle.layout_store.specs.Moved.{HasMovedOut, HasMovedIn, HasMovedTo};
 
+use crate::record_place::RecordPlace;
 use attr_catalog::{Catalog, Home};
-use doc_values::{AttrId, Kind, ValueRef};
-use document_records::{Record, read_value};
+use doc_values::{AttrId, Kind};
+use document_records::read_value;
 use phys_columns::Columns;
 use std::alloc::{AllocError, Global};
 
@@ -21,7 +20,7 @@ pub(crate) fn move_home(
     alloc: Global,
     home: Home,
     kind: Kind,
-    stored: &mut Record,
+    stored: &mut RecordPlace,
     columns: &mut Columns,
     id: AttrId,
     version: u32,
@@ -42,7 +41,7 @@ pub(crate) fn move_home(
             Ok(())
         }
         Home::Reservoir => {
-            move_in(stored, columns, id, version)?;
+            move_in(alloc, stored, columns, id, version)?;
             Ok(())
         }
     }
@@ -64,7 +63,7 @@ pub(crate) fn step_mark(catalog: &mut Catalog, id: AttrId, version: u32)
 fn move_out(
     alloc: Global,
     kind: Kind,
-    stored: &mut Record,
+    stored: &mut RecordPlace,
     columns: &mut Columns,
     id: AttrId,
     version: u32,
@@ -86,7 +85,8 @@ fn move_out(
 
 // Moves what a cell has to the record.
 fn move_in(
-    stored: &mut Record,
+    alloc: Global,
+    stored: &mut RecordPlace,
     columns: &mut Columns,
     id: AttrId,
     version: u32,
@@ -101,26 +101,7 @@ fn move_in(
     let Some(value) = columns.cell_ref(id, version) else {
         return Ok(());
     };
-    put_value(stored, id.0, value)?;
+    stored.put(alloc, id.0, value)?;
     columns.clear_cell(id, version);
-    Ok(())
-}
-
-// Puts a value in a record.
-fn put_value(stored: &mut Record, id: u32, value: ValueRef<'_>) -> Result<(), AllocError>
-    requires small { id < 65536 }
-    requires storable { IsStorable (owned value) }
-    requires absent { value_of id stored.old ≡ None }
-    requires fit { length (values stored.old) + length (bytes_of (owned value)) ≤ 16777216 }
-    ensures ok { OnOk result (stored.new ≡ with_field id (bytes_of (owned value.entry)) stored.old) }
-    ensures memory { OnErr result (stored.new ≡ stored.old) }
-{
-    match value {
-        ValueRef::Bool(b) => stored.put(id, &[u8::from(b)])?,
-        ValueRef::Int(n) => stored.put(id, &(n as i64).to_le_bytes())?,
-        ValueRef::Text(text) => stored.put(id, text.as_bytes())?,
-        ValueRef::Array(text) => stored.put(id, text.as_bytes())?,
-        ValueRef::Object => stored.put(id, &[])?,
-    }
     Ok(())
 }

@@ -3,13 +3,14 @@ ghost use Rattle.row_versions.specs.History.{most_versions, rows_of, newest, beg
 ghost use Rattle.row_versions.specs.Order.{IsLatest};
 
 use crate::grow_fault::GrowFault;
+use crate::record_place::RecordPlace;
 use document_records::Record;
 use row_versions::{AppendFault, MOST_VERSIONS, VersionId, Versions};
 
 /// Puts a version behind the others, with its record, or neither.
 pub(crate) fn push(
     versions: &mut Versions,
-    records: &mut Vec<Record>,
+    records: &mut Vec<RecordPlace>,
     stored: Record,
     row: u32,
     commit: u64,
@@ -28,7 +29,7 @@ pub(crate) fn push(
     if versions.len() as usize == MOST_VERSIONS {
         return Err(GrowFault::Full);
     }
-    records.push(stored)?;
+    records.push(RecordPlace::of(stored))?;
     match versions.append(row, commit) {
         Ok(version) => Ok(version),
         Err(AppendFault::Full) => {

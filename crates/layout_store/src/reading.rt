@@ -7,15 +7,16 @@ ghost use Rattle.document_records.specs.StoredValue.{AreReadable};
 ghost use Rattle.layout_store.specs.Values.{number_of};
 ghost use Rattle.layout_store.specs.Along.{value_by, value_stored, first_of};
 
+use crate::record_place::RecordPlace;
 use attr_catalog::{Catalog, Way};
 use doc_values::{AttrId, ValueRef};
-use document_records::{Record, read_lent};
+use document_records::read_lent;
 use phys_columns::Columns;
 
 /// The first value to which one of some ways leads.
 pub(crate) fn read_path<'a>(
     catalog: &Catalog,
-    stored: &'a Record,
+    stored: &'a RecordPlace,
     columns: &'a Columns,
     version: u32,
     ways: &[Way],
@@ -35,7 +36,7 @@ pub(crate) fn read_path<'a>(
 // The value to which a way leads.
 fn read_way<'a>(
     catalog: &Catalog,
-    stored: &'a Record,
+    stored: &'a RecordPlace,
     columns: &'a Columns,
     version: u32,
     way: Way,
@@ -55,7 +56,7 @@ fn read_way<'a>(
 }
 
 // The value of an attribute in a record.
-fn read_field<'a>(catalog: &Catalog, stored: &'a Record, id: AttrId) -> Option<ValueRef<'a>>
+fn read_field<'a>(catalog: &Catalog, stored: &'a RecordPlace, id: AttrId) -> Option<ValueRef<'a>>
     requires standing { id.0 < length catalog.now }
     requires readable { (i : ℕ) (a : Attribute) → slice_get catalog.now i ≡ Some a → IfSome (value_of i stored.now) (AreReadable a.kind) }
     ensures exact { option_map owned result ≡ value_stored catalog.now stored.now id.0 }

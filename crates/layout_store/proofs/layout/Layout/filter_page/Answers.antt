@@ -17,5 +17,5 @@ returns c =
     let told : IfSome (slice_get s.attributes c.args.id.0) (λ (x : Attribute). (x.mark ≡ None) × (x.home ≡ home.Column) × (x.kind ≡ kind.Int)) = subst (λ (x : Storage). IfSome (slice_get x.attributes c.args.id.0) (λ (y : Attribute). (y.mark ≡ None) × (y.home ≡ home.Column) × (y.kind ≡ kind.Int))) (sym c.self.view_is) c.requires.column in
     let is = if-some (slice_get s.attributes c.args.id.0) (λ (x : Attribute). (x.mark ≡ None) × (x.home ≡ home.Column) × (x.kind ≡ kind.Int)) a.0 a.1 told in
     rw (← c.self.view_is) (record {
-      exact = λ w j lw lj. c.filter_page.ensures.exact w j lw lj ∙ ap (is_met c.args.test) (column-value s c.self.invariant c.stored_values_are_told_apart.ensures.back (1024 * c.args.page + (64 * w + j)) c.args.id.0 a.0 a.1 is.0 is.1);
+      exact = λ w j lw lj. c.filter_page.ensures.exact w j lw lj ∙ ap (is_met c.args.test) (column-value s c.self.invariant.0 c.stored_values_are_told_apart.ensures.back (1024 * c.args.page + (64 * w + j)) c.args.id.0 a.0 a.1 is.0 is.1);
     })

@@ -1,37 +1,21 @@
-use Rattle.std.proofs.Common.{◌<◌, ◌∙◌, List, IfSome, length, refl, ap, sym, subst, arith}
-use Rattle.reservoir_record.specs.declared.fields.Field.{Field}
-use Rattle.reservoir_record.specs.Finding.{value_of}
-use Rattle.attr_catalog.specs.Paths.{IsLawful}
-use Rattle.document_records.specs.StoredValue.{AreReadable}
-use Rattle.layout_store.specs.Along.{value_by, first_of}
-use Rattle.layout_store.specs.Storage.{Storage, record_at}
-use Rattle.layout_store.proofs.Lists.{item-read}
-use Rattle.layout_store.proofs.Read.{all-below, can-read, path-value}
-use Rattle.layout_store.proofs.Sides.{record-there}
+use Rattle.std.proofs.Common.{◌≡◌, ◌<◌, ◌∙◌, List, option_map, length, ap, sym, arith}
+use Rattle.doc_values.specs.Lent.{owned}
+use Rattle.attr_catalog.specs.declared.way.Way.{Way}
+use Rattle.layout_store.specs.Storage.{Storage}
+use Rattle.layout_store.specs.Walked.{value_along}
+use Rattle.layout_store.proofs.Read.{all-below, path-value}
 use Rattle.layout_store.proofs.layout.Layout.read.Goals as goal
 
-pub read_path-requires-clause-lead : goal.read_path-requires-clause-lead
-read_path-requires-clause-lead c =
-    let s : Storage = record { attributes = c.self.inside.catalog; history = c.self.inside.versions; records = c.self.inside.records.items; cells = c.self.inside.columns.cells } in
-    rw c.ways.ensures.exact (all-below s.attributes c.args.path.now (subst (λ (x : Storage). IsLawful x.attributes c.args.path.now) (sym c.self.view_is) c.requires.lawful))
-
-pub read_path-requires-clause-readable : goal.read_path-requires-clause-readable
-read_path-requires-clause-readable c id a at =
-    let s : Storage = record { attributes = c.self.inside.catalog; history = c.self.inside.versions; records = c.self.inside.records.items; cells = c.self.inside.columns.cells } in
-    let lt : c.args.version.0 < length s.history.versions = omega (arith, c.requires.standing, ap (λ (x : Storage). length x.history.versions) c.self.view_is) in
-    let there = item-read s.records s.records c.args.version.0 c.index-stored.result.now refl (omega (arith, lt, c.self.invariant.placed.recorded)) c.index-stored.ensures in
-    subst (λ (fs : List Field). IfSome (value_of id fs) (AreReadable a.kind)) (record-there s.records c.args.version.0 c.index-stored.result.now there) (can-read s c.self.invariant c.args.version.0 id a at)
+pub along-requires-clause-lead : goal.along-requires-clause-lead
+along-requires-clause-lead c = rw c.ways.ensures.exact (all-below c.args.self.now.attributes c.args.path.now c.requires.lawful)
 
 pub returns : goal.returns
 returns c =
     let s : Storage = record { attributes = c.self.inside.catalog; history = c.self.inside.versions; records = c.self.inside.records.items; cells = c.self.inside.columns.cells } in
-    let v = c.args.version.0 in
     let lt : c.args.version.0 < length s.history.versions = omega (arith, c.requires.standing, ap (λ (x : Storage). length x.history.versions) c.self.view_is) in
-    let there = item-read s.records s.records c.args.version.0 c.index-stored.result.now refl (omega (arith, lt, c.self.invariant.placed.recorded)) c.index-stored.ensures in
-    let same = record-there s.records c.args.version.0 c.index-stored.result.now there in
+    let read : option_map owned c.along.result ≡ value_along s c.ways.result.now c.args.version = c.along.ensures.exact ∙ ap (λ (x : Storage). value_along x c.ways.result.now c.args.version) (sym c.self.view_is) in
     rw (← c.self.view_is) (record {
       exact = λ name wanted is.
-          c.read_path.ensures.exact ∙ ap (λ (fs : List Field). first_of (value_by s.attributes fs s.cells c.args.version.0) c.ways.result.now) (sym same)
-          ∙ ap (first_of (value_by s.attributes (record_at c.args.version.0 s.records) s.cells c.args.version.0)) (c.ways.ensures.exact ∙ is)
-          ∙ path-value s c.self.invariant c.stored_values_are_told_apart.ensures.back c.args.version.0 lt c.keeps_the_rules.ensures.once c.records_are_their_documents.ensures.law name wanted;
+          read ∙ ap (λ (ways : List Way). value_along s ways c.args.version) (c.ways.ensures.exact ∙ is)
+          ∙ path-value s c.self.invariant.0 c.stored_values_are_told_apart.ensures.back c.args.version.0 lt c.keeps_the_rules.ensures.once c.records_are_their_documents.ensures.law name wanted;
     })

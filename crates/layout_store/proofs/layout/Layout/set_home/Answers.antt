@@ -8,7 +8,7 @@ pub invariant_of-self : goal.invariant_of-self
 invariant_of-self c =
     let s : Storage = record { attributes = c.self.inside.catalog; history = c.self.inside.versions; records = c.self.inside.records.items; cells = c.self.inside.columns.cells } in
     let lt : c.args.id.0 < length c.self.inside.catalog = omega (arith, c.requires.standing, ap (λ (x : Storage). length x.attributes) c.self.view_is) in
-    rw c.set_home.ensures.exact (changed-layout s c.self.invariant c.args.id lt (housed c.args.home) (housed_keeps c.args.home) (λ a at. housed_stays s c.self.invariant.placed c.args.id.0 c.args.home a at))
+    (rw c.set_home.ensures.exact (changed-layout s c.self.invariant.0 c.args.id lt (housed c.args.home) (housed_keeps c.args.home) (λ a at. housed_stays s c.self.invariant.0.placed c.args.id.0 c.args.home a at)), c.self.invariant.1)
 
 pub returns : goal.returns
 returns c =
@@ -16,5 +16,5 @@ returns c =
     let lt : c.args.id.0 < length c.self.inside.catalog = omega (arith, c.requires.standing, ap (λ (x : Storage). length x.attributes) c.self.view_is) in
     rw (c.set_home.ensures.exact, ← c.self.view_is) (record {
       exact = refl;
-      shows = changed-shows s c.self.invariant c.args.id lt (housed c.args.home) (housed_keeps c.args.home) (λ a at. housed_stays s c.self.invariant.placed c.args.id.0 c.args.home a at);
+      shows = changed-shows s c.self.invariant.0 c.args.id lt (housed c.args.home) (housed_keeps c.args.home) (λ a at. housed_stays s c.self.invariant.0.placed c.args.id.0 c.args.home a at);
     })

@@ -1,0 +1,7 @@
+use Rattle.attr_catalog.specs.Attribute.{raised}
+use Rattle.layout_store.specs.Changes.{AreChanged}
+use Rattle.layout_store.proofs.Upto.{where_so, listed}
+use Rattle.layout_store.proofs.counting.raise_cells.Given as goal
+
+abbrev pub invariant-loop-place : goal.invariant-loop-place
+invariant-loop-place l = AreChanged (where_so raised (listed l.ids l.columns.cells l.version l.place)) l.fn.catalog l.catalog
