@@ -5,7 +5,8 @@ ghost use Rattle.reservoir_record.specs.Finding.{value_of};
 ghost use Rattle.reservoir_record.specs.declared.fields.Field.{Field};
 
 use reservoir_record::{
-    Steps, a_spelling_has_its_fields_in_place, build_from_parts, count, field, find, find_near, put, remove,
+    Steps, a_spelling_has_its_fields_in_place, build_from_parts, count, field, find, find_near,
+    put, remove,
 };
 use std::alloc::{AllocError, Global};
 use std::marker::{Brand, Model};

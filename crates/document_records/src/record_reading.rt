@@ -9,11 +9,7 @@ use doc_values::{AttrId, Kind, ValueRef};
 
 /// The value that a record has under a name, of whichever kind it is; lent from its bytes. It is looked for at a guessed
 /// place first, which is then the place where it stands.
-pub fn value_under<'a>(
-    kinds: &Kinds,
-    stored: &'a Record,
-    guess: &mut u32,
-) -> Option<ValueRef<'a>>
+pub fn value_under<'a>(kinds: &Kinds, stored: &'a Record, guess: &mut u32) -> Option<ValueRef<'a>>
     requires { CanBeRead kinds.now stored.now }
     ensures exact { option_map owned result ≡ value_found kinds.now stored.now }
 {
