@@ -38,17 +38,14 @@ class Reader:
         sort, token, _ = self.tokens[self.at]
         return sort == "word" and token.upper() in words
 
-    def is_symbol(self, *symbols):
-        sort, token, _ = self.tokens[self.at]
-        return sort == "symbol" and token in symbols
-
     def take_word(self, *words):
-        taken = self.is_word(*words)
-        self.at += taken
-        return taken
+        return self.take_if(self.is_word(*words))
 
     def take(self, *symbols):
-        taken = self.is_symbol(*symbols)
+        sort, token, _ = self.tokens[self.at]
+        return self.take_if(sort == "symbol" and token in symbols)
+
+    def take_if(self, taken):
         self.at += taken
         return taken
 
@@ -83,6 +80,11 @@ class Reader:
             name = self.name()
         return name
 
+    def bracketed(self, part):
+        self.need("(")
+        part()
+        self.need(")")
+
     def listed(self, part):
         parts = [part()]
         while self.take(","):
@@ -115,9 +117,7 @@ class Reader:
         self.sum()
         if self.take("=", "<>", "!=", "<", "<=", ">", ">="):
             if self.tokens[self.at - 1][1] == "=" and self.take_word("ANY"):
-                self.need("(")
-                self.reference()
-                self.need(")")
+                self.bracketed(self.reference)
             else:
                 self.sum()
         elif self.take_word("IS"):
@@ -126,9 +126,7 @@ class Reader:
         else:
             negated = self.take_word("NOT")
             if self.take_word("IN"):
-                self.need("(")
-                self.listed(self.expr)
-                self.need(")")
+                self.bracketed(lambda: self.listed(self.expr))
             elif self.take_word("BETWEEN"):
                 self.sum()
                 self.need_word("AND")
@@ -203,36 +201,33 @@ class Reader:
         if self.take_word("WHERE"):
             self.expr()
 
+    def joined(self):
+        """One more table, if there is one."""
+        if self.take(","):
+            self.table()
+            return True
+        outer = self.take_word("LEFT") and (self.take_word("OUTER") or True)
+        if not outer and not self.take_word("INNER") and not self.is_word("JOIN"):
+            return False
+        self.need_word("JOIN")
+        self.table()
+        self.need_word("ON")
+        self.expr()
+        return True
+
     def select(self):
         self.take_word("DISTINCT")
-        if self.take("*"):
-            items = None
-            self.need_word("FROM")
-            self.table()
-            self.where()
-        else:
-            items = self.listed(self.item)
-            self.need_word("FROM")
-            self.table()
-            while True:
-                if self.take(","):
-                    self.table()
-                    continue
-                outer = self.take_word("LEFT")
-                if outer:
-                    self.take_word("OUTER")
-                if not outer and not self.take_word("INNER") and not self.is_word("JOIN"):
-                    break
-                self.need_word("JOIN")
-                self.table()
-                self.need_word("ON")
-                self.expr()
-            self.where()
-            if self.take_word("GROUP"):
-                self.need_word("BY")
-                self.listed(self.reference)
-            if self.take_word("HAVING"):
-                self.expr()
+        items = None if self.take("*") else self.listed(self.item)
+        self.need_word("FROM")
+        self.table()
+        while items is not None and self.joined():
+            pass
+        self.where()
+        if items is not None and self.take_word("GROUP"):
+            self.need_word("BY")
+            self.listed(self.reference)
+        if items is not None and self.take_word("HAVING"):
+            self.expr()
         if self.take_word("ORDER"):
             self.need_word("BY")
             self.listed(self.key)
