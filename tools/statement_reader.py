@@ -75,10 +75,9 @@ class Reader:
         return self.plain("a column's name")
 
     def reference(self):
+        is_word = self.tokens[self.at][0] == "word"
         name = self.name()
-        if self.take("."):
-            name = self.name()
-        return name
+        return self.name() if is_word and self.take(".") else name
 
     def bracketed(self, part):
         self.need("(")
@@ -101,15 +100,16 @@ class Reader:
         return None
 
     # Expressions, from the loosest to the tightest.
+    def chain(self, part, goes_on):
+        part()
+        while goes_on():
+            part()
+
     def expr(self):
-        self.conjunction()
-        while self.take_word("OR"):
-            self.conjunction()
+        self.chain(self.conjunction, lambda: self.take_word("OR"))
 
     def conjunction(self):
-        self.negation()
-        while self.take_word("AND"):
-            self.negation()
+        self.chain(self.negation, lambda: self.take_word("AND"))
 
     def negation(self):
         while self.take_word("NOT"):
@@ -139,14 +139,10 @@ class Reader:
                 self.stop("IN, BETWEEN or LIKE")
 
     def sum(self):
-        self.product()
-        while self.take("+", "-"):
-            self.product()
+        self.chain(self.product, lambda: self.take("+", "-"))
 
     def product(self):
-        self.unary()
-        while self.take("*"):
-            self.unary()
+        self.chain(self.unary, lambda: self.take("*"))
 
     def unary(self):
         while self.take("-"):
