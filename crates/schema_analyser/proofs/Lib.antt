@@ -1,0 +1,4 @@
+pub mod Differing
+pub mod Shown
+pub mod Taken
+pub mod Counted

@@ -1,0 +1,4 @@
+pub mod Different
+pub mod Tally
+pub mod Survey
+pub mod Choice
