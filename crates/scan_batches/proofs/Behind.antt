@@ -129,19 +129,19 @@ rows-behind n m columns more whole docs others filled e =
     let after = row_at (put_behind columns more) (docs ++ cond whole others []) in
     range-parts after 0 n m
     ∙ ap (λ (rows : List Cells). rows ++ map after (range_with_len (0 + n) m))
-      (range-same after (row_at columns docs) 0 n (λ k lt.
-          let below : k < n = omega (arith, lt) in
-          let cells = cells-before n k columns more filled.even below in
-          let doc = docs-before whole n k docs others filled.documents below in
-          λ i. record { cells = cells i; doc = doc i }))
+    (range-same after (row_at columns docs) 0 n (λ k lt.
+    let below : k < n = omega (arith, lt) in
+    let cells = cells-before n k columns more filled.even below in
+    let doc = docs-before whole n k docs others filled.documents below in
+    λ i. record { cells = cells i; doc = doc i }))
     ∙ ap (λ (rows : List Cells). rows_of n columns docs ++ rows)
-      (range-moved after (row_at more (cond whole others [])) (0 + n) 0 m (λ j.
-          let here : (0 + n) + j ≡ n + j = omega arith in
-          let there : j ≡ 0 + j = omega arith in
-          let cells = cells-behind n j columns more filled.even e in
-          let doc = docs-behind whole n j docs others filled.documents in
-          let row : after (n + j) ≡ row_at more (cond whole others []) j = λ i. record { cells = cells i; doc = doc i } in
-          ap after here ∙ row ∙ ap (row_at more (cond whole others [])) there))
+    (range-moved after (row_at more (cond whole others [])) (0 + n) 0 m (λ j.
+    let here : (0 + n) + j ≡ n + j = omega arith in
+    let there : j ≡ 0 + j = omega arith in
+    let cells = cells-behind n j columns more filled.even e in
+    let doc = docs-behind whole n j docs others filled.documents in
+    let row : after (n + j) ≡ row_at more (cond whole others []) j = λ i. record { cells = cells i; doc = doc i } in
+    ap after here ∙ row ∙ ap (row_at more (cond whole others [])) there))
 
 -- ---- so many values each
 

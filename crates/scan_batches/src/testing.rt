@@ -105,11 +105,7 @@ fn kept_by_column(
 }
 
 // Puts a version behind others, or does not.
-fn push_if(
-    keep: bool,
-    version: VersionId,
-    kept: &mut Vec<VersionId>,
-) -> Result<(), AllocError>
+fn push_if(keep: bool, version: VersionId, kept: &mut Vec<VersionId>) -> Result<(), AllocError>
     ensures ok { OnOk result (kept.new.items ≡ kept.old.items ++ (if keep then version ∷ [] else [])) }
 {
     if keep {
@@ -165,11 +161,7 @@ fn kept_by_any(
     let tables = rows_tested(alloc, layout, refs, paths, versions)?;
     let mut kept = Vec::new(alloc);
     for row in 0..versions.len() {
-        push_if(
-            is_true(test, &tables, row as u32),
-            versions[row],
-            &mut kept,
-        )?;
+        push_if(is_true(test, &tables, row as u32), versions[row], &mut kept)?;
     }
     Ok(kept)
 }

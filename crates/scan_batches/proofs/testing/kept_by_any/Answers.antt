@@ -30,5 +30,5 @@ loop-row-preserved c =
     let made = λ (w : VersionId). cells_under c.args.refs.now false (document_in c.args.layout.now w) in
     let keep = λ (w : VersionId). passes (Some c.args.test.now) (alone (made w)) in
     let says = λ (d : VersionId). c.is_true.ensures.exact
-        ∙ ap (λ t. keeps (truth_of (value_over t c.args.test.now))) (tuple-of made versions c.deref.result.now row (get_or versions row d) (c.deref.ensures.value ∙ c.in_ok-tables.ensures.ok) (slice_get-get_or versions row d c.loop-row-test.true)) in
+    ∙ ap (λ t. keeps (truth_of (value_over t c.args.test.now))) (tuple-of made versions c.deref.result.now row (get_or versions row d) (c.deref.ensures.value ∙ c.in_ok-tables.ensures.ok) (slice_get-get_or versions row d c.loop-row-test.true)) in
     one-more keep versions c.loop-row.kept.items _ row _ c.is_true.result c.loop-row-test.true c.loop-row.invariant (says _) c.in_ok-push_if.ensures.ok

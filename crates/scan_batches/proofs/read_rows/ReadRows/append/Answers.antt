@@ -15,12 +15,12 @@ invariant_of-self c =
     let all = c.put_rows-put.new.docs.items in
     let lent = c.deref_mut.ensures.value in
     let put : IsPut c.args.layout.now c.args.refs.now c.args.versions.now r.count c.in-Ok.count r.columns.items new r.whole r.docs.items all = record {
-          filled = c.self.invariant;
-          width = ap (λ (v : RowsOf). v.width) c.self.view_is ∙ c.requires.width;
-          columns_put = c.in-Ok.ensures.columns ∙ ap (λ xs. put_behind xs (map (λ k. map (values_for c.args.layout.now k) c.args.versions.now) c.args.refs.now)) lent;
-          docs_put = c.in-Ok.ensures.docs;
-          counted = c.in-Ok.ensures.count;
-        } in
+      filled = c.self.invariant;
+      width = ap (λ (v : RowsOf). v.width) c.self.view_is ∙ c.requires.width;
+      columns_put = c.in-Ok.ensures.columns ∙ ap (λ xs. put_behind xs (map (λ k. map (values_for c.args.layout.now k) c.args.versions.now) c.args.refs.now)) lent;
+      docs_put = c.in-Ok.ensures.docs;
+      counted = c.in-Ok.ensures.count;
+    } in
     let long : length new ≡ r.columns.len = omega (arith, c.in-Ok.ensures.long, c.deref_mut.ensures.len) in
     subst (λ (xs : List Values). AreFilled c.in-Ok.count xs r.whole all) (sym (back r.columns.len new r.columns.items long))
     (filled-more c.args.layout.now c.args.refs.now c.args.versions.now r.count c.in-Ok.count r.columns.items new r.whole r.docs.items all put)
@@ -32,12 +32,12 @@ returns-in-Ok-clause-ok c =
     let all = c.put_rows-put.new.docs.items in
     let lent = c.deref_mut.ensures.value in
     let put : IsPut c.args.layout.now c.args.refs.now c.args.versions.now r.count c.in-Ok.count r.columns.items new r.whole r.docs.items all = record {
-          filled = c.self.invariant;
-          width = ap (λ (v : RowsOf). v.width) c.self.view_is ∙ c.requires.width;
-          columns_put = c.in-Ok.ensures.columns ∙ ap (λ xs. put_behind xs (map (λ k. map (values_for c.args.layout.now k) c.args.versions.now) c.args.refs.now)) lent;
-          docs_put = c.in-Ok.ensures.docs;
-          counted = c.in-Ok.ensures.count;
-        } in
+      filled = c.self.invariant;
+      width = ap (λ (v : RowsOf). v.width) c.self.view_is ∙ c.requires.width;
+      columns_put = c.in-Ok.ensures.columns ∙ ap (λ xs. put_behind xs (map (λ k. map (values_for c.args.layout.now k) c.args.versions.now) c.args.refs.now)) lent;
+      docs_put = c.in-Ok.ensures.docs;
+      counted = c.in-Ok.ensures.count;
+    } in
     let long : length new ≡ r.columns.len = omega (arith, c.in-Ok.ensures.long, c.deref_mut.ensures.len) in
     ap (λ (xs : List Values). rows_of c.in-Ok.count xs all) (back r.columns.len new r.columns.items long)
     ∙ rows-more c.args.layout.now c.args.refs.now c.args.versions.now r.count c.in-Ok.count r.columns.items new r.whole r.docs.items all put

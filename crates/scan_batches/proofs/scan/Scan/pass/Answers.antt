@@ -12,7 +12,7 @@ returns-then-is_enough-clause-read c = λ so_far.
     let refs = c.deref.result.now in
     let old : r.rows.rows ≡ wanted s r.at r.refs.items r.rows.whole r.test r.most r.next_row = subst (λ (v : ScanOf). v.rows ≡ rows_wanted s v) (sym c.self.view_is) so_far in
     let read : rows ≡ wanted s r.at refs r.rows.whole r.test r.most c.in_ok-next.next =
-        c.in_ok-next.ensures.read (old ∙ ap (λ x. wanted s r.at x r.rows.whole r.test r.most r.next_row) (sym c.deref.ensures.value)) in
+    c.in_ok-next.ensures.read (old ∙ ap (λ x. wanted s r.at x r.rows.whole r.test r.most r.next_row) (sym c.deref.ensures.value)) in
     let many : has_enough r.most rows ≡ true = ap (is_as_many r.most) (sym c.len.ensures.exact) ∙ sym c.if-is_enough.ensures.exact in
     let within : c.in_ok-next.next ≤ r.end_row = omega (arith, c.in_ok-next.ensures.within.1, c.self.invariant.0, c.min.ensures) in
     all-the-rest s r.at refs r.rows.whole r.test r.most c.in_ok-next.next r.end_row rows within many read
@@ -26,5 +26,5 @@ returns-else-is_enough-clause-read c = λ so_far.
     let refs = c.deref.result.now in
     let old : r.rows.rows ≡ wanted s r.at r.refs.items r.rows.whole r.test r.most r.next_row = subst (λ (v : ScanOf). v.rows ≡ rows_wanted s v) (sym c.self.view_is) so_far in
     let read : rows ≡ wanted s r.at refs r.rows.whole r.test r.most c.in_ok-next.next =
-        c.in_ok-next.ensures.read (old ∙ ap (λ x. wanted s r.at x r.rows.whole r.test r.most r.next_row) (sym c.deref.ensures.value)) in
+    c.in_ok-next.ensures.read (old ∙ ap (λ x. wanted s r.at x r.rows.whole r.test r.most r.next_row) (sym c.deref.ensures.value)) in
     read ∙ (λ i. wanted s r.at (c.deref.ensures.value i) (sym c.in_ok-next.ensures.whole i) r.test r.most c.in_ok-next.next)
