@@ -1,7 +1,7 @@
 use crate::played::Played;
 use crate::table::print_table;
 use crate::timing::{filled, time};
-use anyhow::{Context, Result, anyhow, bail};
+use anyhow::{Context, Result, bail};
 use attr_catalog::Home;
 use doc_values::{AttrId, Doc, Utf, Value};
 use row_versions::VersionId;
@@ -20,43 +20,53 @@ pub(crate) fn run(rt: &HostRuntime, line: &str) -> Result<()> {
     }
     let mut played = Played::new(rt.alloc());
     for word in line.split_ascii_whitespace() {
+        let Some(word) = read_word(word) else {
+            bail!("a word is no event");
+        };
         step(rt.alloc(), &mut played, word)?;
     }
     print_table(rt, &played)
 }
 
+// A word: its sign, the numbers before and behind an `@`, and the text behind a `:`.
+#[derive(Clone, Copy)]
+struct Word<'a> {
+    sign: &'a str,
+    first: u32,
+    second: u32,
+    text: &'a str,
+}
+
+fn read_word(word: &str) -> Option<Word<'_>> {
+    let (sign, rest) = word.split_at_checked(1)?;
+    let (place, text) = rest.split_once(':').unwrap_or((rest, ""));
+    let (first, second) = place.split_once('@').unwrap_or((place, "0"));
+    Some(Word {
+        sign,
+        first: first.parse().ok()?,
+        second: second.parse().ok()?,
+        text,
+    })
+}
+
 // Does what a word says.
-fn step(alloc: Global, played: &mut Played, word: &str) -> Result<()> {
-    let (sign, rest) = word
-        .split_at_checked(1)
-        .ok_or_else(|| anyhow!("a word is no event"))?;
-    match sign {
-        "+" => {
-            let (place, text) = rest.split_once(':').unwrap_or((rest, ""));
-            let (row, commit) = numbers(place)?;
-            played.add(row, &document_of(alloc, text)?, commit)
-        }
-        "-" => {
-            let (version, commit) = numbers(rest)?;
-            played.end(VersionId(version), commit)
-        }
-        "x" => played.empty(VersionId(rest.parse()?)),
-        "c" => played.house(AttrId(rest.parse()?), Home::Column),
-        "r" => played.house(AttrId(rest.parse()?), Home::Reservoir),
-        "k" => played.clear(AttrId(rest.parse()?)),
-        "s" => played.settle(AttrId(rest.parse()?)),
-        "m" => {
-            let (id, version) = rest.split_once('@').ok_or_else(|| anyhow!("no version"))?;
-            played.move_one(AttrId(id.parse()?), VersionId(version.parse()?))
-        }
-        _ => bail!("a word is no event"),
+fn step(alloc: Global, played: &mut Played, word: Word<'_>) -> Result<()> {
+    let id = AttrId(word.first);
+    match word.sign {
+        "+" => add(alloc, played, word),
+        "-" => played.end(VersionId(word.first), u64::from(word.second)),
+        "x" => played.empty(VersionId(word.first)),
+        "c" => played.house(id, Home::Column),
+        "r" => played.house(id, Home::Reservoir),
+        "m" => played.move_one(id, VersionId(word.second)),
+        "k" => played.clear(id),
+        _ => played.settle(id),
     }
 }
 
-// The numbers on both sides of an `@`.
-fn numbers(text: &str) -> Result<(u32, u64)> {
-    let (first, second) = text.split_once('@').ok_or_else(|| anyhow!("no number"))?;
-    Ok((first.parse()?, second.parse()?))
+fn add(alloc: Global, played: &mut Played, word: Word<'_>) -> Result<()> {
+    let document = document_of(alloc, word.text)?;
+    played.add(word.first, &document, u64::from(word.second))
 }
 
 // The document of a list of names with values.

@@ -19,11 +19,10 @@ pub(crate) struct Played {
 impl Model for Played {
     ghost use Rattle.std.specs.Prelude.{ℕ};
     ghost use Rattle.row_versions.specs.Order.{IsLatest};
-    ghost use Rattle.layout_store.specs.Storage.{Storage};
 
-    ghost Value = { Storage × ℕ };
+    ghost Value = { ℕ };
 
-    ghost view = { λ p. (p.layout, p.now) };
+    ghost view = { λ p. p.now };
 
     ghost invariant = { λ p. IsLatest p.now p.layout.history.versions };
 }
