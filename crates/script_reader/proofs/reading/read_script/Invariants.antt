@@ -8,4 +8,4 @@ abbrev pub invariant-loop-piece : goal.invariant-loop-piece
 invariant-loop-piece l =
     (goal.iterator-loop-piece).can_next l.piece-iterator ×
     (goal.iterator-loop-piece).is_finite l.piece-iterator ×
-    IsReading (slice_split is_line_feed l.bytes) (length l.yielded) l.number l.draft
+    IsReading (slice_split is_line_feed l.body) (length l.yielded) l.number l.draft
