@@ -37,8 +37,8 @@ pub record IsReading (pieces : List (List ℕ)) (read number : ℕ) (draft : Lis
   pub within : number ≤ most_lines
   pub rest : read_from (number + 1) draft (drop read pieces) ≡ read_from 1 [] pieces
 
-pub IsReading-start : (pieces : List (List ℕ)) (draft : List Line) → draft ≡ [] → IsReading pieces 0 0 draft
-IsReading-start pieces draft none = record {
+pub reading_starts : (pieces : List (List ℕ)) (draft : List Line) → draft ≡ [] → IsReading pieces 0 0 draft
+reading_starts pieces draft none = record {
   numbered = refl;
   few = omega (arith, ap length none);
   within = omega arith;

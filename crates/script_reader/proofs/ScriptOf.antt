@@ -246,3 +246,7 @@ fault_both_ways bytes fault = (read_has_fault bytes fault, fault_is_read bytes f
 -- The script that bytes are keeps the rules.
 pub rules_kept : (bytes : List ℕ) (lines : List Line) → script_of bytes ≡ Ok lines → IsScript lines
 rules_kept bytes lines h = (read_is_script bytes lines h).keeps
+
+-- The same, of what pieces come to.
+pub rules_of_pieces : (pieces : List (List ℕ)) (lines : List Line) → read_from 1 [] pieces ≡ Ok lines → IsScript lines
+rules_of_pieces pieces lines h = let m = made 1 [] pieces lines Keeps-nil few_first h in IsScript-from_Keeps lines m.keeps m.few

@@ -132,15 +132,11 @@ spoken (Some session) rest = statement session [] rest
 abbrev pub statement_in : List ℕ → Said
 statement_in bytes = spoken (session_of (first_word bytes)) (behind_word bytes)
 
--- A piece that is blank or a remark says nothing.
-abbrev pub is_quiet : List ℕ → Bool
-is_quiet piece = list_all is_blank piece || is_remark piece
-
 -- What a piece says by itself, if it is not too long: the lines that a statement names still stand in its text.
 abbrev pub said_short : List ℕ → Said
 said_short piece =
     if not (is_utf8 piece) then bad why.TheVariants.Utf8
-    else if is_quiet piece then nothing
+    else if list_all is_blank piece || is_remark piece then nothing
     else statement_in (past is_gap piece)
 
 -- What a piece of a number says by itself. The faults are asked for in this order.

@@ -1,6 +1,6 @@
 ghost use Rattle.std.specs.Prelude.{◌≡◌};
 ghost use Rattle.std.specs.List.{list_all, prefix_len};
-ghost use Rattle.script_reader.specs.Pieces.{behind_word, first_word, is_blank, is_gap, is_in_word, is_quiet, is_remark, past, said_alone, said_short, statement_in};
+ghost use Rattle.script_reader.specs.Pieces.{behind_word, first_word, is_blank, is_gap, is_in_word, is_remark, past, said_alone, said_short, statement_in};
 ghost use Rattle.script_reader.specs.Told.{told, said_by};
 
 use crate::limits::{MOST_LINE_BYTES, MOST_LINES};
@@ -28,16 +28,13 @@ fn read_short(piece: &[u8]) -> Result<Option<Statement<'_>>, Why>
     let Ok(text) = str::from_utf8(piece) else {
         return Err(Why::Utf8);
     };
-    if is_quiet(text) {
+    if is_blank_line(text) || is_remark(text) {
         return Ok(None);
     }
-    read_statement(past_gap(text)).map(Some)
-}
-
-fn is_quiet(text: &str) -> bool
-    ensures exact { result ≡ is_quiet text.now }
-{
-    is_blank_line(text) || is_remark(text)
+    match read_statement(past_gap(text)) {
+        Ok(statement) => Ok(Some(statement)),
+        Err(why) => Err(why),
+    }
 }
 
 fn is_blank_line(text: &str) -> bool

@@ -1,5 +1,7 @@
-ghost use Rattle.std.specs.Prelude.{◌≡◌, Ok, Err, IfOk, IfErr};
-ghost use Rattle.script_reader.specs.Reader.{script_of};
+ghost use Rattle.std.specs.Prelude.{◌≡◌, [], Ok, Err, IfOk, IfErr};
+ghost use Rattle.std.specs.List.{slice_split};
+ghost use Rattle.script_reader.specs.Pieces.{is_line_feed};
+ghost use Rattle.script_reader.specs.Reader.{read_from, script_of};
 ghost use Rattle.script_reader.specs.Told.{IsWithoutEnd};
 ghost use Rattle.script_reader.specs.declared.script_fault.ScriptFault.{ScriptFault};
 
@@ -21,7 +23,15 @@ pub fn read_script(alloc: Global, bytes: &[u8]) -> Result<Script, ScriptReadFaul
     if bytes.len() > MOST_BYTES {
         return Err(bad(0, Why::Size));
     }
-    let body = without_end(bytes);
+    read_pieces(alloc, without_end(bytes))
+}
+
+/// Reads the script whose pieces stand between line feeds.
+#[tactic(auto, using(crate::proofs::Progress::reading_starts))]
+fn read_pieces(alloc: Global, body: &[u8]) -> Result<Script, ScriptReadFault>
+    ensures ok { IfOk result (λ lines. read_from 1 [] (slice_split is_line_feed body.now) ≡ Ok lines) }
+    ensures bad { IfErr result (λ e. (f : ScriptFault) → e ≡ ScriptReadFault.Bad f → read_from 1 [] (slice_split is_line_feed body.now) ≡ Err f) }
+{
     let mut draft = Draft::new(alloc)?;
     let mut number = 0;
     for piece in body.split(|byte| *byte == b'\n') {

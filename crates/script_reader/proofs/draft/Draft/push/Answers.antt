@@ -14,10 +14,10 @@ small c =
     omega (arith, ap length (c.items.ensures.exact ∙ own), lines_of_few session lines, c.requires.room, ap length c.self.view_is)
 
 pub overflow_cast-line : goal.overflow_cast-line
-overflow_cast-line c = ?
+overflow_cast-line c = let few = small c in omega (arith, few)
 
 pub overflow_add-line : goal.overflow_add-line
-overflow_add-line c = ?
+overflow_add-line c = let few = small c in omega (arith, few)
 
 pub followed-requires : goal.followed-requires
 followed-requires c =

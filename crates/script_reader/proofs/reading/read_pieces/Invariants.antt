@@ -2,7 +2,7 @@ use Rattle.std.proofs.Common.{length}
 use Rattle.std.specs.List.{slice_split}
 use Rattle.script_reader.specs.Pieces.{is_line_feed}
 use Rattle.script_reader.proofs.Progress.{IsReading}
-use Rattle.script_reader.proofs.reading.read_script.Given as goal
+use Rattle.script_reader.proofs.reading.read_pieces.Given as goal
 
 abbrev pub invariant-loop-piece : goal.invariant-loop-piece
 invariant-loop-piece l =
