@@ -1,4 +1,5 @@
 pub mod Sessions
+pub mod Words
 pub mod Pieces
 pub mod Script
 pub mod Reader
