@@ -5,9 +5,12 @@
 #![tactic(auto)]
 
 mod draft;
-mod last;
 mod laws;
+mod limits;
 mod line;
+mod named;
+mod names;
+mod number;
 mod piece;
 mod positions;
 mod reading;
@@ -23,7 +26,8 @@ pub use laws::{
 };
 pub use line::Line;
 pub use positions::Positions;
-pub use reading::{MOST_BYTES, read_script};
+pub use limits::{MOST_BYTES, MOST_LINE_BYTES, MOST_LINES, MOST_SESSIONS};
+pub use reading::read_script;
 pub use script::Script;
 pub use script_fault::ScriptFault;
 pub use script_read_fault::ScriptReadFault;
