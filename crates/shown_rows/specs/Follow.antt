@@ -17,7 +17,7 @@ pub record AreShown (show : ℕ → Option Fields) (bound : ℕ) (rows : List Ro
 -- The law, over what rows show and over storages.
 pub record RowsFollow : Type 0 where
   -- the list holds each row that shows a document, once, in the order of their numbers
-  pub shown : (show : ℕ → Option Fields) (bound : ℕ) → AreShown show bound (rows_below show bound)
+  pub listed : (show : ℕ → Option Fields) (bound : ℕ) → AreShown show bound (rows_below show bound)
   -- rows that show the same below a bound are the same list
   pub alike : (show other : ℕ → Option Fields) (bound : ℕ) → ((number : ℕ) → number < bound → show number ≡ other number) → rows_below show bound ≡ rows_below other bound
   -- rows that show nothing from a bound on add nothing
