@@ -65,9 +65,11 @@ all_more show k number d rows o e lt is h = by (cases_lt number k) o e
         let document : Some x ≡ Some d = sym e ∙ ap show (sym same) ∙ is in
         let equal : x ≡ d = cc in
         (length rows, get-last rows (row k x) ∙ ap (λ (n : ℕ). Some (row n x)) (sym same) ∙ ap (λ (y : Fields). Some (row number y)) equal)
+
     behind : (o : Option Fields) → Holds rows (row number d) → Holds (rows ++ row_if k o) (row number d)
     behind None p = (p.0, ap (λ (rs : List Row). slice_get rs p.0) (append-nil rows) ∙ p.1)
     behind (Some x) p = (p.0, get-front rows (row k x) p.0 (row number d) p.1)
+
     by : (number < k) ⊎ (k ≤ number) → (o : Option Fields) → show k ≡ o → Holds (rows ++ row_if k o) (row number d)
     by (inl less) o e = behind o (h less)
     by (inr more) o e = here (omega (arith, lt, more)) o e
