@@ -1,9 +1,9 @@
 -- What is wanted of documents, and of more behind them.
-use Rattle.std.proofs.Common.{◌≡◌, ℕ, zero, suc, ◌+◌, ◌-◌, ◌<◌, ◌≤◌, min, nat_le, Bool, true, false, cond, List, [], ◌∷◌, ◌++◌, length, map, filter, take, Option, Some, None, option_map, refl, sym, ap, ◌∙◌, arith, append-nil, append_assoc}
+use Rattle.std.proofs.Common.{◌≡◌, ℕ, zero, suc, ◌-◌, ◌<◌, ◌≤◌, min, Bool, true, false, cond, List, [], ◌∷◌, ◌++◌, length, map, filter, take, Option, Some, None, refl, sym, ap, ◌∙◌, arith}
 use Rattle.std.specs.Prelude.{All}
 use Rattle.std.proofs.lemmas.Bool.{leb-true, leb-false}
 use Rattle.std.proofs.lemmas.List.{take_all, take-append-le, map-append, length-map, length-take, take-map}
-use Rattle.std.proofs.lemmas.List.Elements.{filter-append, All-take}
+use Rattle.std.proofs.lemmas.List.Elements.{All-take}
 use Rattle.query_meaning.specs.Plans.{at_most}
 use Rattle.scan_batches.specs.Scans.{is_as_many}
 use Rattle.scan_batches.specs.Reading.{room_for}

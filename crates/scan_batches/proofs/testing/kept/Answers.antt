@@ -1,4 +1,4 @@
-use Rattle.std.proofs.Common.{◌≡◌, ◌∙◌, false, Some, filter, sym, ap, subst}
+use Rattle.std.proofs.Common.{◌∙◌, false, filter, sym, ap, subst}
 use Rattle.std.proofs.lemmas.Result.{IfOk-weaker}
 use Rattle.query_meaning.specs.Plans.{alone, cells_under, passes}
 use Rattle.scan_batches.specs.Scans.{CanBeTested}

@@ -1,4 +1,4 @@
-use Rattle.std.proofs.Common.{◌≡◌, ◌∙◌, sym, ap}
+use Rattle.std.proofs.Common.{◌∙◌}
 use Rattle.std.proofs.lemmas.Result.{IfOk-weaker}
 use Rattle.doc_values.specs.Lent.{owned}
 use Rattle.scan_batches.proofs.Tests.{path-at, column-keeps, filter-agree}

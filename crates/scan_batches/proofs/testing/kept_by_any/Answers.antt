@@ -1,7 +1,6 @@
-use Rattle.std.proofs.Common.{◌≡◌, ◌∙◌, ◌<◌, false, Some, length, get_or, sym, ap, subst}
+use Rattle.std.proofs.Common.{◌∙◌, false, Some, get_or, sym, ap, subst}
 use Rattle.std.proofs.lemmas.Option.{slice_get-get_or}
 use Rattle.row_versions.specs.declared.version_id.VersionId.{VersionId}
-use Rattle.row_columns.specs.Contents.{Cells}
 use Rattle.sql_eval.specs.Resolved.{value_over}
 use Rattle.sql_eval.specs.Truth.{truth_of}
 use Rattle.sql_eval.specs.Widths.{CanEvaluate}

@@ -1,6 +1,5 @@
-use Rattle.std.proofs.Common.{◌≡◌, ◌∙◌, ◌++◌, ◌+◌, length, map, take, drop, Bool, List, sym, ap, subst, arith, rules}
+use Rattle.std.proofs.Common.{◌≡◌, ◌∙◌, ◌++◌, length, map, List, sym, ap, subst, arith}
 use Rattle.row_columns.specs.Column.{Values}
-use Rattle.row_columns.specs.Contents.{Cells}
 use Rattle.row_columns.specs.Placed.{rows_of}
 use Rattle.query_meaning.specs.Plans.{cells_under}
 use Rattle.scan_batches.specs.Filled.{AreFilled, RowsOf, put_behind}
