@@ -1,11 +1,10 @@
 -- Ascending lists of numbers: they are told apart by what they contain.
-use Rattle.std.proofs.Common.{◌≡◌, ℕ, zero, suc, ◌+◌, ◌<◌, ◌≤◌, Bool, true, false, ◌⊎◌, inl, inr, List, [], ◌∷◌, ◌++◌, length, get_or, Some, arith, refl, ap, sym, ◌∙◌, subst, ⊎_elim, append-nil}
-use Rattle.std.specs.Prelude.{◌↔◌, nat_eq, if◌then◌else◌, slice_get}
+use Rattle.std.proofs.Common.{◌≡◌, ℕ, zero, suc, ◌+◌, ◌<◌, ◌≤◌, Bool, true, false, ◌⊎◌, inl, inr, List, [], ◌∷◌, ◌++◌, length, get_or, arith, refl, sym, subst, ⊎_elim, append-nil}
+use Rattle.std.specs.Prelude.{◌↔◌, nat_eq, if◌then◌else◌}
 use Rattle.std.specs.Cmp.{nat_eq_equiv}
-use Rattle.std.specs.List.{All, Contains, list_any}
+use Rattle.std.specs.List.{Contains, list_any}
 use Rattle.std.specs.List.Sorted.{IsStrictlyIncreasing}
 use Rattle.std.proofs.lemmas.Bool.{cases_eq, eqb-true}
-use Rattle.std.proofs.lemmas.List.{length_push}
 use Rattle.std.proofs.lemmas.List.Elements.{Contains-append_left, Contains-push, Contains-push_cases}
 use Rattle.std.proofs.lemmas.Map.Views.{list_any-from_Contains, Contains-from_any}
 use Rattle.script_reader.specs.Reader.{ascending}
@@ -45,9 +44,9 @@ unfolding Rises
 same_first low x y xs ys one other in_other in_one = ⊎_elim
     (λ same. sym same)
     (λ behind. ⊎_elim
-      (λ same. same)
-      (λ below. absurd (omega (arith, at_least (y + 1) ys x other.1 behind, at_least (x + 1) xs y one.1 below)))
-      (in_cons x xs y in_one))
+    (λ same. same)
+    (λ below. absurd (omega (arith, at_least (y + 1) ys x other.1 behind, at_least (x + 1) xs y one.1 below)))
+    (in_cons x xs y in_one))
     (in_cons y ys x in_other)
 
 pub same_rising : (low : ℕ) (xs ys : List ℕ) → Rises low xs → Rises low ys → ((k : ℕ) → Contains xs k ↔ Contains ys k) → xs ≡ ys
@@ -72,9 +71,11 @@ rises_behind : (x : ℕ) (xs : List ℕ) → IsStrictlyIncreasing (x ∷ xs) →
 unfolding Rises
 rises_behind x [] up = tt
 rises_behind x (y ∷ ys) up =
-    let first : x < y = up 0 (omega arith) in
-    (omega (arith, first), rises_behind y ys (λ k l.
-    subst (λ n. get_or (y ∷ ys) k 0 < get_or (x ∷ y ∷ ys) n 0) (more_one k) (up (suc k) (omega (arith, l)))))
+    let first : x < y = up 0 (omega arith) in (
+      omega (arith, first),
+      rises_behind y ys (λ k l.
+          subst (λ n. get_or (y ∷ ys) k 0 < get_or (x ∷ y ∷ ys) n 0) (more_one k) (up (suc k) (omega (arith, l)))),
+    )
 
 pub Rises-from_increasing : (xs : List ℕ) → IsStrictlyIncreasing xs → Rises 0 xs
 unfolding Rises

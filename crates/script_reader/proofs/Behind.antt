@@ -162,12 +162,15 @@ is_behind before line named place follows above up =
     let found = last_of_all before line.session in
     let follows-is : line.follows ≡ ascending (named ++ last) (length before) =
     is_ascending line.follows (named ++ last) (length before) (Rises-from_increasing line.follows up)
-    (λ k h. (above k h, ⊎_elim
-      (λ is. Contains-append_right named last k ((found k).1 is))
-      (λ in-named. Contains-append_left named last k in-named)
-      ((follows k).0 h)))
+    (λ k h. (
+      above k h,
+      ⊎_elim
+          (λ is. Contains-append_right named last k ((found k).1 is))
+          (λ in-named. Contains-append_left named last k in-named)
+          ((follows k).0 h),
+    ))
     (λ k h. (follows k).1 (⊎_elim
-      (λ in-named. inr in-named)
-      (λ in-last. inl ((found k).0 in-last))
-      (Contains-append_cases named last k h))) in
+    (λ in-named. inr in-named)
+    (λ in-last. inl ((found k).0 in-last))
+    (Contains-append_cases named last k h))) in
     λ i. record { session = line.session; place = place i; follows = follows-is i; text = line.text }

@@ -21,7 +21,7 @@ lines_from_push at s (x ∷ xs) line =
     let there : at + 1 + length xs ≡ at + suc (length xs) = omega arith in
     let more = lines_from_push (at + 1) s xs line ∙ ap (λ p. rest ++ (if is_said_by s line then p ∷ [] else [])) there in
     elim (is_said_by s x) as (λ b. (if b then at ∷ lines_from (at + 1) s (xs ++ line ∷ []) else lines_from (at + 1) s (xs ++ line ∷ []))
-        ≡ (if b then at ∷ rest else rest) ++ (if is_said_by s line then (at + suc (length xs)) ∷ [] else [])) [
+    ≡ (if b then at ∷ rest else rest) ++ (if is_said_by s line then (at + suc (length xs)) ∷ [] else [])) [
       | true ↦ ap (λ ps. at ∷ ps) more
       | false ↦ more
     ]

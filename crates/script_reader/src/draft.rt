@@ -96,11 +96,7 @@ fn no_lines(alloc: Global) -> Result<Vec<Positions>, AllocError>
 }
 
 /// What a line follows that names these lines, and whose session's last line is the one given.
-fn followed(
-    lines: usize,
-    last: Option<u32>,
-    named: Positions,
-) -> Result<Positions, AllocError>
+fn followed(lines: usize, last: Option<u32>, named: Positions) -> Result<Positions, AllocError>
     requires { All (λ position. position < lines) (named ++ option_to_list last) }
     ensures ok { IfOk result (λ follows. follows ≡ ascending (named ++ option_to_list last) lines) }
 {

@@ -24,9 +24,9 @@ pub use laws::{
     bytes_are_one_script, followed_lines_stand_above, lines_are_told_apart,
     long_bytes_are_no_script, numbers_are_small, scripts_keep_the_rules, sessions_are_written,
 };
+pub use limits::{MOST_BYTES, MOST_LINE_BYTES, MOST_LINES, MOST_SESSIONS};
 pub use line::Line;
 pub use positions::Positions;
-pub use limits::{MOST_BYTES, MOST_LINE_BYTES, MOST_LINES, MOST_SESSIONS};
 pub use reading::read_script;
 pub use script::Script;
 pub use script_fault::ScriptFault;

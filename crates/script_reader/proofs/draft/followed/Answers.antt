@@ -1,4 +1,4 @@
-use Rattle.std.proofs.Common.{◌≡◌, ℕ, ◌<◌, List, ◌++◌, sym, ◌∙◌, subst}
+use Rattle.std.proofs.Common.{ℕ, ◌<◌, List, ◌++◌, sym, ◌∙◌, subst}
 use Rattle.std.specs.Prelude.{option_to_list}
 use Rattle.std.specs.List.{Contains}
 use Rattle.std.proofs.lemmas.List.Filters.{dedup_is}
@@ -17,8 +17,8 @@ returns c =
     record {
       ok = c.from_vec.ensures.exact
           ∙ is_ascending c.dedup.new.self.items list c.args.lines (Rises-from_increasing _ (rw is (IsStrictlyIncreasing-dedup _ c.sort_unstable.ensures.sorted)))
-            (λ k h.
-            let found : Contains list k = subst (λ l. Contains l k) all-is (Contains-permutation _ _ k (IsPermutation-sym _ _ moved) (Contains-from_dedup _ _ k (rw is at h))) in
-            (subst (λ n. n < c.args.lines) found.2 (c.requires found.0 k found.1), found))
-            (λ k h. rw is (Contains-dedup_nat _ k (Contains-permutation _ _ k moved (subst (λ l. Contains l k) (sym all-is) h))));
+          (λ k h.
+          let found : Contains list k = subst (λ l. Contains l k) all-is (Contains-permutation _ _ k (IsPermutation-sym _ _ moved) (Contains-from_dedup _ _ k (rw is at h))) in
+          (subst (λ n. n < c.args.lines) found.2 (c.requires found.0 k found.1), found))
+          (λ k h. rw is (Contains-dedup_nat _ k (Contains-permutation _ _ k moved (subst (λ l. Contains l k) (sym all-is) h))));
     }

@@ -53,13 +53,12 @@ pub loop-piece-preserved : goal.loop-piece-preserved
 loop-piece-preserved c =
     let t = turn (goal.at.loop-piece-preserved c).In-Some in
     let told = rw c.in-Ok-Some.field-0-is at c.in-Ok-Some.ensures in
-    let names = sym c.in_ok-named-in-Ok-Some.ensures.exact ∙ c.in-Some-2.is in
-    (
+    let names = sym c.in_ok-named-in-Ok-Some.ensures.exact ∙ c.in-Some-2.is in (
       search rules,
       search rules,
       rw (length_push c.loop-piece.yielded c.in-Some.piece)
-      (IsReading-statement _ _ _ _ c.loop-piece.invariant.2 _ t.0 t.1 c.in-Ok-Some.statement.session c.in-Ok-Some.statement.rest.now c.in-Some-2.named c.in_ok-draft-in-Some-2.draft (sym told.exact) names
-      c.in_ok-draft-in-Some-2.ensures.ok),
+          (IsReading-statement _ _ _ _ c.loop-piece.invariant.2 _ t.0 t.1 c.in-Ok-Some.statement.session c.in-Ok-Some.statement.rest.now c.in-Some-2.named c.in_ok-draft-in-Some-2.draft (sym told.exact) names
+          c.in_ok-draft-in-Some-2.ensures.ok),
     )
 
 pub returns-in-None-2-clause-bad : goal.returns-in-None-2-clause-bad

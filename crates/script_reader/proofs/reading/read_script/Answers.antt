@@ -1,4 +1,4 @@
-use Rattle.std.proofs.Common.{◌≡◌, ℕ, List, Result, Ok, Err, IfOk, IfErr, sym, subst, arith}
+use Rattle.std.proofs.Common.{◌≡◌, List, Result, Ok, Err, IfOk, IfErr, sym, subst, arith}
 use Rattle.script_reader.specs.declared.line.Line.{Line}
 use Rattle.script_reader.specs.declared.script_fault.ScriptFault.{ScriptFault}
 use Rattle.script_reader.specs.declared.script_read_fault.ScriptReadFault as fault

@@ -2,7 +2,7 @@ use Rattle.std.proofs.Common.{rules, ◌≡◌, ◌+◌, ◌-◌, ◌<◌, [], �
 use Rattle.std.specs.Prelude.{count_by, option_to_list, slice_get}
 use Rattle.std.specs.List.{All}
 use Rattle.script_reader.specs.Reader.{ascending, line_behind}
-use Rattle.script_reader.specs.Sessions.{is_said_by, lines_of, last_of}
+use Rattle.script_reader.specs.Sessions.{is_said_by, last_of}
 use Rattle.script_reader.proofs.Lasts.{own_is, lines_of_few, length-lines_of, TellsSessions_behind, all_followed}
 use Rattle.script_reader.proofs.draft.Draft.push.Goals as goal
 
