@@ -17,6 +17,7 @@ ghost use Rattle.document_records.specs.StoredDocument.{pairs_of};
 use crate::cell_ids::CellIds;
 use crate::counting::{lower_all, write_all};
 use crate::grow_fault::GrowFault;
+use crate::lent_numbering::record_of_lent;
 use crate::moving::{move_home, step_mark};
 use crate::numbering::record_of;
 use crate::pushing::push;
@@ -43,6 +44,8 @@ pub struct Layout {
     records: Vec<RecordPlace>,
     columns: Columns,
     cell_ids: CellIds,
+    // Which attribute followed which one in the documents that were added last.
+    followers: Vec<u32>,
     // Their memory serves many documents.
     entries: Vec<(u32, usize)>,
     parts: Parts,
@@ -91,6 +94,7 @@ impl Layout {
             records,
             columns,
             cell_ids,
+            followers: Vec::new(alloc),
             entries: Vec::new(alloc),
             parts: Parts::new(alloc),
         }
@@ -308,8 +312,40 @@ impl Layout {
         ensures full { result ≡ Err GrowFault.Full → (length self.old.history.versions ≡ most_versions) ⊎ (most_attributes < length (with_fields (pairs_of self.old.attributes) document.now)) }
         ensures kept { OnErr result (self.new ≡ self.old) }
     {
+        appends_show();
+        self.versions.keeps_order();
         let _kept = document.len();
-        Err(GrowFault::Memory)
+        let alloc = *self.records.allocator();
+        let attributes = self.catalog.len();
+        let catalog = &mut self.catalog;
+        let followers = &mut self.followers;
+        match record_of_lent(
+            alloc,
+            catalog,
+            followers,
+            document,
+            &mut self.entries,
+            &mut self.parts,
+        ) {
+            Ok(record) => match push(&mut self.versions, &mut self.records, record, row, commit) {
+                Ok(version) => {
+                    write_all(
+                        &mut self.catalog,
+                        &self.records[version.0 as usize],
+                        version.0,
+                    );
+                    Ok(version)
+                }
+                Err(fault) => {
+                    self.catalog.cut(attributes);
+                    Err(fault)
+                }
+            },
+            Err(fault) => {
+                self.catalog.cut(attributes);
+                Err(fault)
+            }
+        }
     }
 
     /// Takes the newest commit back: its versions and its ends, and the attributes from number `left` on.
