@@ -3,11 +3,11 @@ ghost use Rattle.doc_values.specs.Order.{compared, total_order, rank};
 ghost use Rattle.doc_values.specs.Value.{kind_of};
 ghost use Rattle.row_columns.specs.Lent.{owned};
 
-use sql_eval::ValueRef;
+use row_columns::ValueRef;
 use std::cmp::Ordering;
 
 /// How any two values that are lent compare: by their kinds first, and a missing one comes last.
-pub(crate) fn order(left: Option<ValueRef>, right: Option<ValueRef>) -> Ordering
+pub fn order(left: Option<ValueRef>, right: Option<ValueRef>) -> Ordering
     ensures exact { result ≡ total_order (option_map owned left.entry) (option_map owned right.entry) }
 {
     match (left, right) {
@@ -22,7 +22,7 @@ pub(crate) fn order(left: Option<ValueRef>, right: Option<ValueRef>) -> Ordering
 }
 
 // How two values of one kind compare.
-fn compare(left: ValueRef, right: ValueRef) -> Option<Ordering>
+pub(crate) fn compare(left: ValueRef, right: ValueRef) -> Option<Ordering>
     ensures exact { result ≡ compared (owned left.entry) (owned right.entry) }
 {
     match (left, right) {
