@@ -18,11 +18,11 @@ use Rattle.sql_eval.specs.declared.expr.Expr.TheFolds.{fold-Addend as fold-ExprA
 use Rattle.sql_eval.specs.Resolves as resolves
 use Rattle.sql_eval.specs.Resolves.{Resolves, AllResolve, AddendsResolve, IsReadAt, denied_if, among_written, between_written, number, text, truth, null, column, wanted, disjunction, conjunction, negation, comparison, nullness, among, among_out, between, between_out, likeness, product, minus, no_terms, more_terms, no_addends, more_addends}
 use Rattle.sql_eval.specs.Widths.{Width, over, sum_bits, bits_of, width_step, width_of, width_in, plain_step, is_plain}
-use Rattle.type_rules.specs.Widths.{term_step, term_width, addend_width}
-use Rattle.type_rules.specs.Runnable.{slots_step, every_slot, is_column}
-use Rattle.type_rules.specs.Steps.{numerals_step, has_numerals, has_numerals_in}
-use Rattle.type_rules.proofs.TermFolds as terms
-use Rattle.type_rules.proofs.ExprFolds as exprs
+use Rattle.term_rules.specs.Widths.{term_step, term_width, addend_width}
+use Rattle.resolved_terms.specs.Computed.{slots_step, every_slot, is_column}
+use Rattle.resolved_terms.specs.Steps.{numerals_step, has_numerals, has_numerals_in}
+use Rattle.term_rules.proofs.TermFolds as terms
+use Rattle.resolved_terms.proofs.ExprFolds as exprs
 
 both : {a b : Bool} → a ≡ true → b ≡ true → (a && b) ≡ true
 both h k = λ i. h i && k i

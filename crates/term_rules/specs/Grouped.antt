@@ -8,10 +8,10 @@ use Rattle.sql_tree.specs.declared.reference.Ref.{Ref}
 use Rattle.term_rules.specs.declared.grouping.Grouping.{Grouping}
 use Rattle.term_rules.specs.Groups.{is_column_of}
 
--- A grouping has the table and the name.
-abbrev pub is_at : Option ℕ → List ℕ → Grouping → Bool
-is_at table name g = option_eq nat_eq table g.table && bytes_eq name g.name.now
+-- Groupings have one table and one name.
+abbrev pub same_grouping : Grouping → Grouping → Bool
+same_grouping g h = option_eq nat_eq g.table h.table && bytes_eq g.name.now h.name.now
 
 -- A set has a grouping exactly where one of these references has its table and its name.
 abbrev pub HasGroupings : {S : Type 0} → List (List ℕ) → IndexSet Grouping S → List Ref → Type 0
-HasGroupings scope s grouping = (table : Option ℕ) (name : List ℕ) → list_any (is_at table name) s.keys ≡ list_any (is_column_of scope table name) grouping
+HasGroupings scope s grouping = (g : Grouping) → list_any (same_grouping g) s.keys ≡ list_any (is_column_of scope g.table g.name.now) grouping

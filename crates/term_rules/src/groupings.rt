@@ -1,5 +1,5 @@
-ghost use Rattle.std.specs.Prelude.{◌≡◌, ◌++◌, [], ◌∷◌, map, IfOk, OnOk};
-ghost use Rattle.sql_eval.specs.Meaning.{table_of};
+ghost use Rattle.std.specs.Prelude.{◌≡◌, ◌++◌, List, [], ◌∷◌, map, IfOk, OnOk};
+ghost use Rattle.sql_tree.specs.declared.reference.Ref.{Ref as RefOf};
 ghost use Rattle.term_rules.specs.Groups.{is_grouping};
 ghost use Rattle.term_rules.specs.Grouped.{HasGroupings};
 
@@ -68,7 +68,7 @@ fn note<'a>(
     set: &mut IndexSet<Grouping<'a>>,
     column: &'a Ref,
 ) -> Result<(), AllocError>
-    ensures noted { OnOk result ((before : List Ref) → HasGroupings (map (λ a. a.now) scope.now) set.old before → HasGroupings (map (λ a. a.now) scope.now) set.new (before ++ column.now ∷ [])) }
+    ensures noted { OnOk result ((before : List RefOf) → HasGroupings (map (λ a. a.now) scope.now) set.old before → HasGroupings (map (λ a. a.now) scope.now) set.new (before ++ column.now ∷ [])) }
 {
     set.insert(Grouping {
         table: table_of(scope, column),

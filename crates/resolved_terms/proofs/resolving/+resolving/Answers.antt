@@ -6,12 +6,12 @@ use Rattle.sql_tree.specs.declared.term.Term.TheVariants as term
 use Rattle.sql_eval.specs.declared.expr.Expr.TheVariants as expr
 use Rattle.sql_eval.specs.Resolves.{beside}
 use Rattle.sql_eval.specs.Kinds.{own_kind, wanted_beside}
-use Rattle.type_rules.specs.Uses.{reader_of, uses_beside}
-use Rattle.type_rules.specs.Steps.{IsResolved, denied_expr, has_numerals, has_numerals_in}
-use Rattle.type_rules.specs.Written.{is_written, is_written_in}
-use Rattle.type_rules.proofs.Made.{number_made, text_made, bool_made, null_made, column_made, wanted_made, sum_made, product_made, minus_made, or_made, and_made, not_made, compare_made, is_null_made, like_made}
-use Rattle.type_rules.proofs.Chains.{next, none_left, all_behind, all_left, member_numerals, ahead_goes, ahead_ends, addends_go, addends_end, among_made, among_out_made, between_made, between_out_made, lone_compared, of_term, where_wanted, of_terms, of_addends, of_compare, beside_equal, if_ok}
-use Rattle.type_rules.proofs.resolving.+resolving.Goals as goal
+use Rattle.term_rules.specs.Uses.{reader_of, uses_beside}
+use Rattle.resolved_terms.specs.Steps.{IsResolved, denied_expr, has_numerals, has_numerals_in}
+use Rattle.term_rules.specs.Written.{is_written, is_written_in}
+use Rattle.resolved_terms.proofs.Made.{number_made, text_made, bool_made, null_made, column_made, wanted_made, sum_made, product_made, minus_made, or_made, and_made, not_made, compare_made, is_null_made, like_made}
+use Rattle.resolved_terms.proofs.Chains.{next, none_left, all_behind, all_left, member_numerals, ahead_goes, ahead_ends, addends_go, addends_end, among_made, among_out_made, between_made, between_out_made, lone_compared, of_term, where_wanted, of_terms, of_addends, of_compare, beside_equal, if_ok}
+use Rattle.resolved_terms.proofs.resolving.+resolving.Goals as goal
 
 pub resolve-returns-in-Number-clause-ok : goal.resolve-returns-in-Number-clause-ok
 resolve-returns-in-Number-clause-ok t c =

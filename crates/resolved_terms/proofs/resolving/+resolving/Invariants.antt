@@ -4,11 +4,11 @@ use Rattle.doc_values.specs.declared.kind.Kind.TheVariants as kind
 use Rattle.doc_values.specs.declared.compare_op.CompareOp.TheVariants as compare_op
 use Rattle.sql_tree.specs.declared.term.Term.TheVariants as term
 use Rattle.sql_eval.specs.Resolves.{beside}
-use Rattle.type_rules.specs.Uses.{uses_beside}
-use Rattle.type_rules.specs.Written.{is_written, is_written_in}
-use Rattle.type_rules.specs.Steps.{has_numerals, has_numerals_in}
-use Rattle.type_rules.proofs.Chains.{Ahead, AddendsAhead}
-use Rattle.type_rules.proofs.resolving.+resolving.Given as goal
+use Rattle.term_rules.specs.Uses.{uses_beside}
+use Rattle.term_rules.specs.Written.{is_written, is_written_in}
+use Rattle.resolved_terms.specs.Steps.{has_numerals, has_numerals_in}
+use Rattle.resolved_terms.proofs.Chains.{Ahead, AddendsAhead}
+use Rattle.resolved_terms.proofs.resolving.+resolving.Given as goal
 
 -- the terms so far, and what those that are left come to, make up the whole
 abbrev pub invariant-all-loop-term : goal.invariant-all-loop-term

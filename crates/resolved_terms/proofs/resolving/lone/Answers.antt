@@ -1,8 +1,8 @@
 use Rattle.sql_eval.specs.declared.expr.Expr.TheVariants as expr
 use Rattle.sql_tree.specs.declared.term.Term.TheVariants as term
-use Rattle.type_rules.proofs.Made.{column_made, null_made}
-use Rattle.type_rules.proofs.Chains.{of_term}
-use Rattle.type_rules.proofs.resolving.lone.Goals as goal
+use Rattle.resolved_terms.proofs.Made.{column_made, null_made}
+use Rattle.resolved_terms.proofs.Chains.{of_term}
+use Rattle.resolved_terms.proofs.resolving.lone.Goals as goal
 
 pub returns-in_ok-note-in-Column-clause-ok : goal.returns-in_ok-note-in-Column-clause-ok
 returns-in_ok-note-in-Column-clause-ok c =

@@ -1,8 +1,8 @@
 use Rattle.std.proofs.Common.{map, slice_get, refl, ap, ◌∙◌}
-use Rattle.type_rules.specs.SameColumns.{column_named}
-use Rattle.type_rules.specs.Uses.{Use, noted}
-use Rattle.type_rules.proofs.ColumnsNoted.{read, noted_key, placed_key}
-use Rattle.type_rules.proofs.columns.Columns.note.Goals as goal
+use Rattle.resolved_terms.specs.SameColumns.{column_named}
+use Rattle.term_rules.specs.Uses.{Use, noted}
+use Rattle.resolved_terms.proofs.ColumnsNoted.{read, noted_key, placed_key}
+use Rattle.resolved_terms.proofs.columns.Columns.note.Goals as goal
 
 pub returns-clause-noted : goal.returns-clause-noted
 returns-clause-noted c =
