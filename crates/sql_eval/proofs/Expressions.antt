@@ -3,15 +3,13 @@ use Rattle.std.proofs.Common.{◌≡◌, ℕ, ◌≤◌, ℤ, neg_ℤ, Bool, tru
 use Rattle.std.proofs.Math.Nat.{le_trans}
 use Rattle.std.proofs.Math.Pow.{pow_mono}
 use Rattle.std.proofs.lemmas.Bool.{leb-true}
-use Rattle.doc_values.specs.declared.value.Value.{Value}
 use Rattle.sql_eval.specs.declared.addend.Addend.{Addend}
 use Rattle.sql_eval.specs.declared.expr.Expr.{Expr}
 use Rattle.sql_eval.specs.declared.expr.Expr.TheOpen.{Expr-F}
 use Rattle.sql_eval.specs.declared.expr.Expr.TheVariants as expr
 use Rattle.sql_eval.specs.declared.expr.Expr.TheFolds.{fold-roll-Expr, fold_out-Addend}
-use Rattle.row_columns.specs.Contents.{Cells}
 use Rattle.sql_eval.specs.Operators.{number_of, signed}
-use Rattle.sql_eval.specs.Resolved.{value_step, added_step, value_over, added_over}
+use Rattle.sql_eval.specs.Resolved.{RowGroup, Gives, value_step, added_step, value_over, added_over}
 use Rattle.sql_eval.specs.Widths.{Width, over, width_step, width_of, width_in}
 use Rattle.sql_eval.specs.Within.{IsNumberWithin}
 
@@ -20,8 +18,8 @@ pub width_in-is : (k : ℕ) (a : Addend) → width_in k a ≡ width_of k a.expr
 width_in-is k a = fold_out-Addend Width Width (width_step k) (λ a. a.expr) a
 
 -- A member of a sum adds the number of its expression, or takes it away.
-pub added_over-is : (tuple : List (Option Cells)) (a : Addend) → added_over tuple a ≡ signed a.minus (number_of (value_over tuple a.expr))
-added_over-is tuple a = fold_out-Addend (Option Value) (Option ℤ) (value_step tuple) added_step a
+pub added_over-is : (group : RowGroup) (a : Addend) → added_over group a ≡ signed a.minus (number_of (value_over group a.expr))
+added_over-is group a = ap (λ (f : RowGroup → Option ℤ). f group) (fold_out-Addend Gives (RowGroup → Option ℤ) value_step added_step a)
 
 -- What is added is there if the number is.
 pub signed_some : (minus : Bool) (v : Option ℤ) (n : ℤ) → v ≡ Some n → signed minus v ≡ Some (if minus then neg_ℤ n else n)

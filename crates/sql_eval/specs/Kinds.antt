@@ -2,10 +2,10 @@
 use Rattle.std.specs.Prelude.{Option, Some, None}
 use Rattle.doc_values.specs.declared.kind.Kind.{Kind}
 use Rattle.doc_values.specs.declared.kind.Kind.TheVariants as kind
-use Rattle.sql_tree.specs.declared.agg_call.AggCall.TheVariants as agg_call
 use Rattle.sql_tree.specs.declared.term.Term.{Term}
 use Rattle.sql_tree.specs.declared.term.Term.TheOpen.{Term-F}
 use Rattle.sql_tree.specs.declared.term.Term.TheFolds.{fold-Term}
+use Rattle.sql_eval.specs.Aggregates.{aggregate_kind}
 
 -- One level of a term, where a part tells the kind that it has by itself.
 abbrev pub own_step : {A B : Type 0} → (A → Option Kind) → Term-F A B → Option Kind
@@ -28,10 +28,7 @@ own_step own (Term-F.Sum ts) = Some kind.Int
 own_step own (Term-F.Product ts) = Some kind.Int
 own_step own (Term-F.Minus t) = Some kind.Int
 own_step own Term-F.CountAll = Some kind.Int
-own_step own (Term-F.Aggregate agg_call.Count t) = Some kind.Int
-own_step own (Term-F.Aggregate agg_call.Sum t) = Some kind.Int
-own_step own (Term-F.Aggregate agg_call.Min t) = own t
-own_step own (Term-F.Aggregate agg_call.Max t) = own t
+own_step own (Term-F.Aggregate call t) = aggregate_kind call (own t)
 
 -- The kind that a term has by itself. A reference and NULL have none.
 abbrev pub own_kind : Term → Option Kind

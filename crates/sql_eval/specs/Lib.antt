@@ -1,8 +1,10 @@
 pub mod Truth
 pub mod Like
 pub mod Operators
+pub mod Aggregates
 pub mod Kinds
 pub use Rattle.row_columns.specs.Sides
+pub mod Groups
 pub mod Meaning
 pub use Rattle.row_columns.specs.Contents
 pub use Rattle.row_columns.specs.Lent

@@ -1,5 +1,5 @@
--- What a term means over a tuple of documents: a value, or NULL.
-use Rattle.std.specs.Prelude.{ℕ, pos, neg_ℤ, ℤ, ◌==◌, List, map, Option, Some, None, option_map, option_and_then, if◌then◌else◌}
+-- What a term means over a group of tuples of documents: a value, or NULL.
+use Rattle.std.specs.Prelude.{ℕ, pos, neg_ℤ, ℤ, ◌==◌, List, map, length, Option, Some, None, option_map, option_and_then, if◌then◌else◌}
 use Rattle.std.specs.List.{position_from}
 use Rattle.std.specs.Str.{bytes_eq}
 use Rattle.doc_values.specs.declared.kind.Kind.{Kind}
@@ -16,7 +16,9 @@ use Rattle.sql_tree.specs.declared.term.Term.TheOpen.{Term-F, Addend-F}
 use Rattle.sql_tree.specs.declared.term.Term.TheFolds.{fold-Term}
 use Rattle.sql_eval.specs.declared.truth_value.Truth.{Truth}
 use Rattle.sql_eval.specs.Truth.{denied, both, all_of, any_of, unless, value_of, truth_of}
-use Rattle.sql_eval.specs.Operators.{number_of, value_of_number, signed, sum_of, product_of, comparison, likeness, nullness}
+use Rattle.sql_eval.specs.Operators.{number_of, value_of_number, signed, sum_of, product_of, comparison, likeness, nullness, membership}
+use Rattle.sql_eval.specs.Aggregates.{wanted_inside, aggregate}
+use Rattle.sql_eval.specs.Groups.{first_of, alone}
 use Rattle.row_columns.specs.Sides.{side_at}
 use Rattle.sql_eval.specs.Kinds.{own_step, wanted_beside}
 
@@ -38,58 +40,66 @@ table_of scope (Some alias) = position_from (bytes_eq alias) 0 scope
 abbrev pub read : List (List ℕ) → List (Option Fields) → Ref → Option Kind → Option value.Value
 read scope sides r want = option_and_then (given r.name want) (option_and_then (side_at sides) (table_of scope r.qualifier))
 
--- A part of a term, to the term around it: the kind that it has by itself, and what it means where a kind is wanted of it, or none.
+-- A group: its tuples, each with a document, or none, for each table.
+abbrev pub Group : Type 0
+Group = List (List (Option Fields))
+
+-- A part of a term, to the term around it: the kind that it has by itself, and what it means over a group where a kind is wanted of it, or none.
 pub record Part : Type 0 where
   pub own : Option Kind
-  pub means : Option Kind → Option value.Value
+  pub means : Group → Option Kind → Option value.Value
 
 -- What a part is where a truth value is wanted.
-abbrev pub truth_in : Part → Truth
-truth_in t = truth_of (t.means (Some kind.Bool))
+abbrev pub truth_in : Group → Part → Truth
+truth_in group t = truth_of (t.means group (Some kind.Bool))
 
 -- What a part is where a number is wanted.
-abbrev pub number_in : Part → Option ℤ
-number_in t = number_of (t.means (Some kind.Int))
+abbrev pub number_in : Group → Part → Option ℤ
+number_in group t = number_of (t.means group (Some kind.Int))
 
 -- The comparison of two parts, each with the kind that is wanted of it beside the other.
-abbrev pub comparison_of : CompareOp → Part → Part → Truth
-comparison_of op a b = comparison op (a.means (wanted_beside a.own b.own)) (b.means (wanted_beside b.own a.own))
+abbrev pub comparison_of : Group → CompareOp → Part → Part → Truth
+comparison_of group op a b = comparison op (a.means group (wanted_beside a.own b.own)) (b.means group (wanted_beside b.own a.own))
 
--- One level of a term where a kind is wanted of it, or none. Aggregates and ANY, which speak of more than one tuple or of an array's elements, have no meaning here: NULL stands for it.
-abbrev pub means_step : List (List ℕ) → List (Option Fields) → Term-F Part (Option ℤ) → Option Kind → Option value.Value
-means_step scope sides (Term-F.Number n) want = Some (value.TheVariants.Int (pos n))
-means_step scope sides (Term-F.Text text) want = Some (value.TheVariants.Text text)
-means_step scope sides (Term-F.Bool b) want = Some (value.TheVariants.Bool b)
-means_step scope sides Term-F.Null want = None
-means_step scope sides (Term-F.Column r) want = read scope sides r want
-means_step scope sides (Term-F.Wanted k r) want = read scope sides r (Some k)
-means_step scope sides (Term-F.Or ts) want = value_of (any_of (map truth_in ts))
-means_step scope sides (Term-F.And ts) want = value_of (all_of (map truth_in ts))
-means_step scope sides (Term-F.Not t) want = value_of (denied (truth_in t))
-means_step scope sides (Term-F.Compare op a b) want = value_of (comparison_of op a b)
-means_step scope sides (Term-F.IsNull t negated) want = nullness negated (t.means None)
-means_step scope sides (Term-F.Among t ts negated) want = value_of (unless negated (any_of (map (comparison_of compare_op.Eq t) ts)))
-means_step scope sides (Term-F.Between t low high negated) want = value_of (unless negated (both (comparison_of compare_op.Ge t low) (comparison_of compare_op.Le t high)))
-means_step scope sides (Term-F.Like t pattern negated) want = value_of (unless negated (likeness (t.means (Some kind.Text)) pattern))
-means_step scope sides (Term-F.AnyOf t r) want = None
-means_step scope sides (Term-F.Sum ns) want = value_of_number (sum_of ns)
-means_step scope sides (Term-F.Product ts) want = value_of_number (product_of (map number_in ts))
-means_step scope sides (Term-F.Minus t) want = value_of_number (option_map neg_ℤ (number_in t))
-means_step scope sides Term-F.CountAll want = None
-means_step scope sides (Term-F.Aggregate call t) want = None
+-- What a part means over each tuple of a group by itself.
+abbrev pub means_of_each : Part → Option Kind → Group → List (Option value.Value)
+means_of_each t want group = map (λ tuple. t.means (alone tuple) want) group
+
+-- One level of a term over a group, where a kind is wanted of it, or none. A reference reads the first tuple, an aggregate goes over each tuple by itself.
+abbrev pub means_step : List (List ℕ) → Term-F Part (Group → Option ℤ) → Group → Option Kind → Option value.Value
+means_step scope (Term-F.Number n) group want = Some (value.TheVariants.Int (pos n))
+means_step scope (Term-F.Text text) group want = Some (value.TheVariants.Text text)
+means_step scope (Term-F.Bool b) group want = Some (value.TheVariants.Bool b)
+means_step scope Term-F.Null group want = None
+means_step scope (Term-F.Column r) group want = read scope (first_of group) r want
+means_step scope (Term-F.Wanted k r) group want = read scope (first_of group) r (Some k)
+means_step scope (Term-F.Or ts) group want = value_of (any_of (map (truth_in group) ts))
+means_step scope (Term-F.And ts) group want = value_of (all_of (map (truth_in group) ts))
+means_step scope (Term-F.Not t) group want = value_of (denied (truth_in group t))
+means_step scope (Term-F.Compare op a b) group want = value_of (comparison_of group op a b)
+means_step scope (Term-F.IsNull t negated) group want = nullness negated (t.means group None)
+means_step scope (Term-F.Among t ts negated) group want = value_of (unless negated (any_of (map (comparison_of group compare_op.Eq t) ts)))
+means_step scope (Term-F.Between t low high negated) group want = value_of (unless negated (both (comparison_of group compare_op.Ge t low) (comparison_of group compare_op.Le t high)))
+means_step scope (Term-F.Like t pattern negated) group want = value_of (unless negated (likeness (t.means group (Some kind.Text)) pattern))
+means_step scope (Term-F.AnyOf t r) group want = value_of (membership (t.means group None) (read scope (first_of group) r (Some kind.Array)))
+means_step scope (Term-F.Sum ns) group want = value_of_number (sum_of (map (λ n. n group) ns))
+means_step scope (Term-F.Product ts) group want = value_of_number (product_of (map (number_in group) ts))
+means_step scope (Term-F.Minus t) group want = value_of_number (option_map neg_ℤ (number_in group t))
+means_step scope Term-F.CountAll group want = Some (value.TheVariants.Int (pos (length group)))
+means_step scope (Term-F.Aggregate call t) group want = aggregate call (means_of_each t (wanted_inside call want) group)
 
 -- One level of a term as a part.
-abbrev pub part_step : List (List ℕ) → List (Option Fields) → Term-F Part (Option ℤ) → Part
-part_step scope sides level = record { own = own_step (λ t. t.own) level; means = means_step scope sides level }
+abbrev pub part_step : List (List ℕ) → Term-F Part (Group → Option ℤ) → Part
+part_step scope level = record { own = own_step (λ t. t.own) level; means = means_step scope level }
 
 -- A member of a sum, as the number that it adds.
-abbrev pub addend_step : Addend-F Part (Option ℤ) → Option ℤ
-addend_step a = signed a.minus (number_in a.term)
+abbrev pub addend_step : Addend-F Part (Group → Option ℤ) → Group → Option ℤ
+addend_step a group = signed a.minus (number_in group a.term)
 
--- A term as a part, over the aliases in scope and a document, or none, on each side.
-abbrev pub part_of : List (List ℕ) → List (Option Fields) → Term → Part
-part_of scope sides = fold-Term Part (Option ℤ) (part_step scope sides) addend_step
+-- A term as a part, over the aliases in scope.
+abbrev pub part_of : List (List ℕ) → Term → Part
+part_of scope = fold-Term Part (Group → Option ℤ) (part_step scope) addend_step
 
--- What a term means where a kind is wanted of it, or none.
-abbrev pub meaning : List (List ℕ) → List (Option Fields) → Term → Option Kind → Option value.Value
-meaning scope sides t = (part_of scope sides t).means
+-- What a term means over a group where a kind is wanted of it, or none.
+abbrev pub meaning : List (List ℕ) → Group → Term → Option Kind → Option value.Value
+meaning scope group t want = (part_of scope t).means group want

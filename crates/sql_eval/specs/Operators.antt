@@ -7,6 +7,7 @@ use Rattle.sql_eval.specs.declared.truth_value.Truth.{Truth}
 use Rattle.sql_eval.specs.declared.truth_value.Truth.TheVariants.{Unknown}
 use Rattle.sql_eval.specs.Truth.{tested}
 use Rattle.sql_eval.specs.Like.{is_like}
+use Rattle.array_elements.specs.Elements.{has_element}
 
 -- The number that a value is; NULL and values of other kinds are none.
 abbrev pub number_of : Option value.Value → Option ℤ
@@ -44,3 +45,8 @@ likeness _ pattern = Unknown
 -- IS NULL, or with NOT.
 abbrev pub nullness : Bool → Option value.Value → Option value.Value
 nullness negated v = Some (value.TheVariants.Bool (if negated then is_some v else not (is_some v)))
+
+-- `= ANY`: unknown where a side is NULL, else whether an element of the array is of the value's kind and equals it.
+abbrev pub membership : Option value.Value → Option value.Value → Truth
+membership (Some v) (Some (value.TheVariants.Array text)) = tested (Some (has_element text v))
+membership _ _ = Unknown

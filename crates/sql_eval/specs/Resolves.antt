@@ -6,6 +6,7 @@ use Rattle.doc_values.specs.declared.compare_op.CompareOp.{CompareOp}
 use Rattle.doc_values.specs.declared.compare_op.CompareOp.TheVariants as compare_op
 use Rattle.doc_values.specs.declared.col_ref.ColRef.{ColRef}
 use Rattle.doc_values.specs.Doc.{Fields}
+use Rattle.sql_tree.specs.declared.agg_call.AggCall.{AggCall}
 use Rattle.sql_tree.specs.declared.reference.Ref.{Ref}
 use Rattle.sql_tree.specs.declared.addend.Addend.{Addend as TermAddend}
 use Rattle.sql_tree.specs.declared.term.Term.{Term}
@@ -16,9 +17,10 @@ use Rattle.sql_eval.specs.declared.expr.Expr.{Expr}
 use Rattle.sql_eval.specs.declared.expr.Expr.TheVariants as expr
 use Rattle.sql_eval.specs.Kinds.{own_kind, wanted_beside}
 use Rattle.row_columns.specs.Sides.{side_at}
-use Rattle.sql_eval.specs.Meaning.{given, table_of, meaning}
+use Rattle.sql_eval.specs.Aggregates.{wanted_inside}
+use Rattle.sql_eval.specs.Meaning.{Group, given, table_of, meaning}
 use Rattle.row_columns.specs.Contents.{Cells}
-use Rattle.sql_eval.specs.Resolved.{value_over}
+use Rattle.sql_eval.specs.Resolved.{RowGroup, value_over}
 
 -- A reference is read at a slot: the place of its table, and there that of a column with its name and the kind that is wanted, or none.
 pub record IsReadAt (scope : List (List ℕ)) (refs : List (List ColRef)) (want : Option Kind) (r : Ref) (slot : Slot) : Type 0 where
@@ -65,6 +67,9 @@ mutual
     sum : {w : Option Kind} {ts : List TermAddend} {es : List Addend} → AddendsResolve scope refs ts es → Resolves scope refs w (term.Sum ts) (expr.Sum es)
     product : {w : Option Kind} {ts : List Term} {es : List Expr} → AllResolve scope refs (λ _. Some kind.Int) ts es → Resolves scope refs w (term.Product ts) (expr.Product es)
     minus : {w : Option Kind} {t : Term} {e : Expr} → Resolves scope refs (Some kind.Int) t e → Resolves scope refs w (term.Minus t) (expr.Minus e)
+    any_of : {w : Option Kind} {t : Term} {e : Expr} {r : Ref} {s : Slot} → Resolves scope refs None t e → IsReadAt scope refs (Some kind.Array) r s → Resolves scope refs w (term.AnyOf t r) (expr.AnyOf e s)
+    count_all : {w : Option Kind} → Resolves scope refs w term.CountAll expr.CountAll
+    aggregation : {w : Option Kind} {call : AggCall} {t : Term} {e : Expr} → Resolves scope refs (wanted_inside call w) t e → Resolves scope refs w (term.Aggregate call t) (expr.Aggregate call e)
 
   -- Each term resolves to the expression in its place, where the kind is wanted that the term tells.
   pub data AllResolve (scope : List (List ℕ)) (refs : List (List ColRef)) : (Term → Option Kind) → List Term → List Expr → Type 0 where
@@ -87,6 +92,13 @@ IsRowOf columns (Some doc) (Some row) = row.cells ≡ map (λ c. given c.name c.
 abbrev pub HoldsReferences : List (List ColRef) → List (Option Fields) → List (Option Cells) → Type 0
 HoldsReferences refs sides tuple = (place : ℕ) (columns : List ColRef) → slice_get refs place ≡ Some columns → IsRowOf columns (side_at sides place) (side_at tuple place)
 
+-- The tuples of a group of rows hold, each in its place, what the documents of the tuples of a group give.
+abbrev pub HoldReferences : List (List ColRef) → Group → RowGroup → Type 0
+HoldReferences refs [] [] = Unit {0}
+HoldReferences refs [] (tuple ∷ rows) = ⊥
+HoldReferences refs (sides ∷ group) [] = ⊥
+HoldReferences refs (sides ∷ group) (tuple ∷ rows) = HoldsReferences refs sides tuple × HoldReferences refs group rows
+
 -- An expression to which a term resolves means over rows what the term means over documents, where the rows hold what the documents give.
 abbrev pub KeepsMeaning : Type 0
-KeepsMeaning = (scope : List (List ℕ)) (refs : List (List ColRef)) (sides : List (Option Fields)) (tuple : List (Option Cells)) (want : Option Kind) (t : Term) (e : Expr) → HoldsReferences refs sides tuple → Resolves scope refs want t e → meaning scope sides t want ≡ value_over tuple e
+KeepsMeaning = (scope : List (List ℕ)) (refs : List (List ColRef)) (group : Group) (rows : RowGroup) (want : Option Kind) (t : Term) (e : Expr) → HoldReferences refs group rows → Resolves scope refs want t e → meaning scope group t want ≡ value_over rows e

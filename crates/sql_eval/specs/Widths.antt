@@ -1,5 +1,5 @@
 -- How many bits the numbers of an expression need, and which expressions are computed.
-use Rattle.std.specs.Prelude.{◌≡◌, ℕ, ◌+◌, ◌*◌, max, sum, length, nat_le, Bool, true, false, ◌&&◌, List, [], ◌∷◌, map, Option, IfSome}
+use Rattle.std.specs.Prelude.{◌≡◌, ℕ, ◌+◌, ◌*◌, ◌^◌, ◌≤◌, All, max, sum, length, nat_le, Bool, true, ◌&&◌, List, [], ◌∷◌, map, Option, IfSome}
 use Rattle.std.specs.List.{list_all}
 use Rattle.doc_values.specs.Value.{IsStorable}
 use Rattle.sql_tree.specs.declared.agg_call.AggCall.{AggCall}
@@ -10,7 +10,8 @@ use Rattle.sql_eval.specs.declared.expr.Expr.{Expr}
 use Rattle.sql_eval.specs.declared.expr.Expr.TheOpen.{Expr-F}
 use Rattle.sql_eval.specs.declared.expr.Expr.TheFolds.{fold-Expr, fold-Addend}
 use Rattle.row_columns.specs.Contents.{Cells}
-use Rattle.sql_eval.specs.Resolved.{cell_at}
+use Rattle.sql_eval.specs.Groups.{alone}
+use Rattle.sql_eval.specs.Resolved.{RowGroup, cell_at}
 
 -- A number that an expression gives is at most 2 to its bits, up and down. The expression is narrow if no number that is computed on the way needs more than 126 bits, and no numeral in it is above 2 to the 63.
 pub record Width : Type 0 where
@@ -81,34 +82,21 @@ are_narrow tables es = list_all (λ w. w.narrow) (map (width_of tables) es)
 abbrev pub addends_are_narrow : ℕ → List Addend → Bool
 addends_are_narrow tables members = list_all (λ w. w.narrow) (map (width_in tables) members)
 
--- One level of an expression: whether neither it nor a part of it is an aggregate or an ANY.
-abbrev pub plain_step : Expr-F Bool Bool → Bool
-plain_step (Expr-F.Or es) = list_all (λ e. e) es
-plain_step (Expr-F.And es) = list_all (λ e. e) es
-plain_step (Expr-F.Not e) = e
-plain_step (Expr-F.Compare op e f) = e && f
-plain_step (Expr-F.IsNull e negated) = e
-plain_step (Expr-F.Among e es negated) = e && list_all (λ e. e) es
-plain_step (Expr-F.Between e low high negated) = e && low && high
-plain_step (Expr-F.Like e pattern negated) = e
-plain_step (Expr-F.AnyOf e slot) = false
-plain_step (Expr-F.Sum es) = list_all (λ e. e) es
-plain_step (Expr-F.Product es) = list_all (λ e. e) es
-plain_step (Expr-F.Minus e) = e
-plain_step Expr-F.CountAll = false
-plain_step (Expr-F.Aggregate call e) = false
-plain_step _ = true
-
--- Whether an expression has no aggregate and no ANY in it.
-abbrev pub is_plain : Expr → Bool
-is_plain = fold-Expr Bool Bool plain_step (λ a. a.expr)
-
 -- The numbers in the rows of a tuple are those of documents.
 abbrev pub IsStorableTuple : List (Option Cells) → Type 0
 IsStorableTuple tuple = (slot : Slot) → IfSome (cell_at tuple slot) IsStorable
 
--- What `eval` and `truth` ask of an expression and a tuple of rows.
-pub record CanEvaluate (tuple : List (Option Cells)) (e : Expr) : Type 0 where
-  pub plain : is_plain e ≡ true
-  pub narrow : (width_of (length tuple) e).narrow ≡ true
-  pub stored : IsStorableTuple tuple
+-- Over so many tables a group can have so many tuples: each of the tables has at most 2 to the 21 rows, and COUNT has 63 bits, which is what three tables give.
+pub record IsFew (tables : ℕ) (group : RowGroup) : Type 0 where
+  pub least : tables ≤ 3
+  pub most : length group ≤ 2 ^ (21 * tables)
+
+-- What `eval` and `truth` ask of an expression and a group of tuples of so many tables.
+pub record CanEvaluate (tables : ℕ) (group : RowGroup) (e : Expr) : Type 0 where
+  pub narrow : (width_of tables e).narrow ≡ true
+  pub few : IsFew tables group
+  pub stored : All IsStorableTuple group
+
+-- The same of a tuple by itself, which has a side for each table.
+abbrev pub CanEvaluateAlone : List (Option Cells) → Expr → Type 0
+CanEvaluateAlone tuple e = CanEvaluate (length tuple) (alone tuple) e

@@ -1,5 +1,5 @@
 -- Words of private calls: numbers within so many bits, and forms of expressions.
-use Rattle.std.specs.Prelude.{ℕ, ℤ, ◌≤◌, ◌^◌, nat_abs, Bool, true, false}
+use Rattle.std.specs.Prelude.{ℕ, ℤ, ◌≤◌, ◌^◌, nat_abs, Bool, true, false, Option, Some, None}
 use Rattle.doc_values.specs.declared.value_ref.ValueRef as value_ref
 use Rattle.sql_eval.specs.declared.expr.Expr.{Expr}
 use Rattle.sql_eval.specs.declared.expr.Expr.TheOpen.{Expr-F}
@@ -8,6 +8,11 @@ use Rattle.sql_eval.specs.declared.expr.Expr.TheFolds.{fold-Expr}
 -- The number is at most 2 to the bits, up and down.
 abbrev pub IsNumberWithin : ℕ → ℤ → Type 0
 IsNumberWithin bits n = nat_abs n ≤ 2 ^ bits
+
+-- How far from zero a number is that may be missing.
+abbrev pub magnitude : Option ℤ → ℕ
+magnitude None = 0
+magnitude (Some n) = nat_abs n
 
 -- A number that is lent is within the bits; what is no number always is.
 abbrev pub IsWithin : ℕ → value_ref.ValueRef → Type 0

@@ -1,8 +1,8 @@
-ghost use Rattle.std.specs.Prelude.{◌≡◌, List, Option, Some, IfSome};
-ghost use Rattle.row_columns.specs.Contents.{Cells};
+ghost use Rattle.std.specs.Prelude.{◌≡◌, Some, IfSome};
 ghost use Rattle.row_columns.specs.Lent.{owned};
 ghost use Rattle.sql_eval.specs.Operators.{comparison};
-ghost use Rattle.sql_eval.specs.Resolved.{cell_at, value_over};
+ghost use Rattle.sql_eval.specs.Groups.{first_of};
+ghost use Rattle.sql_eval.specs.Resolved.{RowGroup, cell_at, value_over};
 ghost use Rattle.sql_eval.specs.Truth.{truth_of};
 
 use crate::expr::Expr;
@@ -23,7 +23,7 @@ pub struct ColumnTest<'a> {
 impl<'a> ColumnTest<'a> {
     /// The comparison that a condition is, if it is one.
     pub fn of(test: &'a Expr) -> Option<ColumnTest<'a>>
-        ensures exact { IfSome result (λ t. (tuple : List (Option Cells)) → truth_of (value_over tuple test.now) ≡ comparison t.op (cell_at tuple t.slot) (Some (owned t.literal))) }
+        ensures exact { IfSome result (λ t. (group : RowGroup) → truth_of (value_over group test.now) ≡ comparison t.op (cell_at (first_of group) t.slot) (Some (owned t.literal))) }
     {
         match test {
             Expr::Compare { op, left, right } => compared(*op, left.get(), right.get()),
@@ -44,7 +44,7 @@ impl<'a> ColumnTest<'a> {
 }
 
 fn compared<'a>(op: CompareOp, left: &'a Expr, right: &'a Expr) -> Option<ColumnTest<'a>>
-    ensures exact { IfSome result (λ t. (tuple : List (Option Cells)) → comparison op (value_over tuple left.now) (value_over tuple right.now) ≡ comparison t.op (cell_at tuple t.slot) (Some (owned t.literal))) }
+    ensures exact { IfSome result (λ t. (group : RowGroup) → comparison op (value_over group left.now) (value_over group right.now) ≡ comparison t.op (cell_at (first_of group) t.slot) (Some (owned t.literal))) }
 {
     let Expr::Column(slot) = left else {
         return None;

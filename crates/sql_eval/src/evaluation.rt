@@ -1,38 +1,38 @@
-ghost use Rattle.std.specs.Prelude.{◌≡◌, IfOk, length, true};
+ghost use Rattle.std.specs.Prelude.{◌≡◌, All, IfOk, true};
 ghost use Rattle.sql_eval.specs.Truth.{truth_of};
 ghost use Rattle.sql_eval.specs.Resolved.{value_over};
-ghost use Rattle.sql_eval.specs.Widths.{width_of, is_plain, IsStorableTuple};
+ghost use Rattle.sql_eval.specs.Widths.{width_of, IsFew, IsStorableTuple};
 
 use crate::expr::Expr;
+use crate::group::Group;
 use crate::lending::{truth_over, value};
 use crate::truth_value::Truth;
 use doc_values::Value;
-use row_columns::Sides;
 use std::alloc::{AllocError, Global};
 
-/// The value of an expression over a tuple; none is NULL. Numbers and truth values take no memory.
+/// The value of an expression over a group; none is NULL.
 pub fn eval<'a>(
     alloc: Global,
     expr: &'a Expr,
-    tuple: &Sides<'a>,
+    group: &Group<'a>,
 ) -> Result<Option<Value>, AllocError>
-    requires plain { is_plain expr.now ≡ true }
-    requires narrow { (width_of (length tuple.now) expr.now).narrow ≡ true }
-    requires stored { IsStorableTuple tuple.now }
-    ensures ok { IfOk result (λ value. value ≡ value_over tuple.now expr.now) }
+    requires narrow { (width_of group.now.tables expr.now).narrow ≡ true }
+    requires few { IsFew group.now.tables group.now.tuples }
+    requires stored { All IsStorableTuple group.now.tuples }
+    ensures ok { IfOk result (λ value. value ≡ value_over group.now.tuples expr.now) }
 {
-    match value(expr, tuple) {
+    match value(alloc, expr, group)? {
         Some(value) => Ok(Some(value.to_value(alloc)?)),
         None => Ok(None),
     }
 }
 
-/// The truth of an expression over a tuple.
-pub fn truth<'a>(expr: &'a Expr, tuple: &Sides<'a>) -> Truth
-    requires plain { is_plain expr.now ≡ true }
-    requires narrow { (width_of (length tuple.now) expr.now).narrow ≡ true }
-    requires stored { IsStorableTuple tuple.now }
-    ensures exact { result ≡ truth_of (value_over tuple.now expr.now) }
+/// The truth of an expression over a group. Only ANY takes memory.
+pub fn truth<'a>(alloc: Global, expr: &'a Expr, group: &Group<'a>) -> Result<Truth, AllocError>
+    requires narrow { (width_of group.now.tables expr.now).narrow ≡ true }
+    requires few { IsFew group.now.tables group.now.tuples }
+    requires stored { All IsStorableTuple group.now.tuples }
+    ensures ok { IfOk result (λ truth. truth ≡ truth_of (value_over group.now.tuples expr.now)) }
 {
-    truth_over(expr, tuple)
+    truth_over(alloc, expr, group)
 }

@@ -1,37 +1,47 @@
-ghost use Rattle.std.specs.Prelude.{◌≡◌, ◌≤◌, length, true, map, sum, option_map, IfSome};
+ghost use Rattle.std.specs.Prelude.{◌≡◌, ◌≤◌, All, true, map, sum, option_map, neg_ℤ, IfOk, IfSome, length};
 ghost use Rattle.sql_eval.specs.Truth.{any_of, all_of, truth_of};
 ghost use Rattle.sql_eval.specs.Operators.{number_of, sum_of, product_of, comparison};
+ghost use Rattle.sql_eval.specs.Aggregates.{aggregate, chosen, count_of, put_from, total_of};
 ghost use Rattle.row_columns.specs.Lent.{owned};
-ghost use Rattle.sql_eval.specs.Resolved.{value_over, added_over};
-ghost use Rattle.sql_eval.specs.Widths.{width_of, width_in, are_narrow, addends_are_narrow, bits_of, sum_bits, IsStorableTuple};
+ghost use Rattle.sql_eval.specs.Resolved.{gives, of_each, value_over, added_over};
+ghost use Rattle.sql_eval.specs.Widths.{width_of, width_in, are_narrow, addends_are_narrow, aggregate_bits, bits_of, sum_bits, IsFew, IsStorableTuple};
 ghost use Rattle.sql_eval.specs.Within.{IsWithin, IsNumberWithin};
-ghost use Rattle.doc_values.specs.declared.value_ref.ValueRef as value_ref;
 
 use crate::addend::Addend;
-use crate::arithmetic::{negative, plus, times};
+use crate::aggregation::{better, lent, plus_if};
+use crate::arithmetic::{negative_if, plus, times};
 use crate::expr::Expr;
-use crate::operators::{comparison, likeness, nullness};
+use crate::group::Group;
+use crate::operators::{comparison, likeness, membership, nullness};
 use crate::truth_value::Truth;
 use doc_values::CompareOp;
-use row_columns::{Sides, ValueRef};
+use row_columns::ValueRef;
+use sql_tree::AggCall;
+use std::alloc::{AllocError, Global};
 
-// The value of an expression over a tuple, lent; none is NULL.
+/// The value of an expression over a group, lent; none is NULL. Only ANY takes memory.
 #[cycle(lending)]
-pub fn value<'a>(expr: &'a Expr, tuple: &Sides<'a>) -> Option<ValueRef<'a>>
-    requires narrow { (width_of (length tuple.now) expr.now).narrow ≡ true }
-    requires stored { IsStorableTuple tuple.now }
-    ensures exact { option_map owned result ≡ value_over tuple.now expr.now }
-    ensures within { IfSome result (IsWithin (width_of (length tuple.now) expr.now).bits) }
+pub fn value<'a>(
+    alloc: Global,
+    expr: &'a Expr,
+    group: &Group<'a>,
+) -> Result<Option<ValueRef<'a>>, AllocError>
+    requires narrow { (width_of group.now.tables expr.now).narrow ≡ true }
+    requires few { IsFew group.now.tables group.now.tuples }
+    requires stored { All IsStorableTuple group.now.tuples }
+    ensures ok { IfOk result (λ given. option_map owned given ≡ value_over group.now.tuples expr.now) }
+    ensures within { IfOk result (λ given. IfSome given (IsWithin (width_of group.now.tables expr.now).bits)) }
 {
     match expr {
-        Expr::Number(n) => Some(ValueRef::Int(i128::from(*n))),
-        Expr::Text(text) => Some(ValueRef::Text(text.text())),
-        Expr::Bool(b) => Some(ValueRef::Bool(*b)),
-        Expr::Column(slot) => tuple.cell(slot.table, slot.column),
-        Expr::Wanted { column, .. } => tuple.cell(column.table, column.column),
-        Expr::Sum(addends) => Some(ValueRef::Int(sum(addends.as_slice(), tuple)?)),
-        Expr::Product(members) => Some(ValueRef::Int(product(members.as_slice(), tuple)?)),
-        Expr::Minus(arg) => Some(ValueRef::Int(negative(number(arg.get(), tuple)?))),
+        Expr::Number(n) => Ok(Some(ValueRef::Int(i128::from(*n)))),
+        Expr::Text(text) => Ok(Some(ValueRef::Text(text.text()))),
+        Expr::Bool(b) => Ok(Some(ValueRef::Bool(*b))),
+        Expr::Null => Ok(None),
+        Expr::Column(slot) => Ok(group.cell(*slot)),
+        Expr::Wanted { column, .. } => Ok(group.cell(*column)),
+        Expr::Sum(addends) => Ok(lent(sum(alloc, addends.as_slice(), group)?)),
+        Expr::Product(members) => Ok(lent(product(alloc, members.as_slice(), group)?)),
+        Expr::Minus(arg) => Ok(lent(negative_if(number(alloc, arg.get(), group)?))),
         Expr::Or(_)
         | Expr::And(_)
         | Expr::Not(_)
@@ -39,147 +49,278 @@ pub fn value<'a>(expr: &'a Expr, tuple: &Sides<'a>) -> Option<ValueRef<'a>>
         | Expr::IsNull { .. }
         | Expr::Among { .. }
         | Expr::Between { .. }
-        | Expr::Like { .. } => truth_over(expr, tuple).value(),
-        Expr::Null | Expr::AnyOf { .. } | Expr::CountAll | Expr::Aggregate { .. } => None,
+        | Expr::Like { .. }
+        | Expr::AnyOf { .. } => Ok(truth_over(alloc, expr, group)?.value()),
+        Expr::CountAll => Ok(Some(ValueRef::Int(group.len() as i128))),
+        Expr::Aggregate { call, arg } => aggregate(alloc, *call, arg.get(), group),
     }
 }
 
-// The truth of an expression over a tuple.
+// The truth of an expression over a group.
 #[cycle(lending)]
-pub(crate) fn truth_over<'a>(expr: &'a Expr, tuple: &Sides<'a>) -> Truth
-    requires narrow { (width_of (length tuple.now) expr.now).narrow ≡ true }
-    requires stored { IsStorableTuple tuple.now }
-    ensures exact { result ≡ truth_of (value_over tuple.now expr.now) }
+pub(crate) fn truth_over<'a>(
+    alloc: Global,
+    expr: &'a Expr,
+    group: &Group<'a>,
+) -> Result<Truth, AllocError>
+    requires narrow { (width_of group.now.tables expr.now).narrow ≡ true }
+    requires few { IsFew group.now.tables group.now.tuples }
+    requires stored { All IsStorableTuple group.now.tuples }
+    ensures ok { IfOk result (λ truth. truth ≡ truth_of (value_over group.now.tuples expr.now)) }
 {
     match expr {
-        Expr::Bool(b) => Truth::of(Some(*b)),
-        Expr::Column(slot) => Truth::of_value(tuple.cell(slot.table, slot.column)),
-        Expr::Wanted { column, .. } => Truth::of_value(tuple.cell(column.table, column.column)),
-        Expr::Or(members) => any(members.as_slice(), tuple),
-        Expr::And(members) => all(members.as_slice(), tuple),
-        Expr::Not(arg) => truth_over(arg.get(), tuple).not(),
+        Expr::Bool(b) => Ok(Truth::of(Some(*b))),
+        Expr::Column(slot) => Ok(Truth::of_value(group.cell(*slot))),
+        Expr::Wanted { column, .. } => Ok(Truth::of_value(group.cell(*column))),
+        Expr::Or(members) => any(alloc, members.as_slice(), group),
+        Expr::And(members) => all(alloc, members.as_slice(), group),
+        Expr::Not(arg) => Ok(truth_over(alloc, arg.get(), group)?.not()),
         Expr::Compare { op, left, right } => {
-            comparison(*op, value(left.get(), tuple), value(right.get(), tuple))
+            let left = value(alloc, left.get(), group)?;
+            Ok(comparison(*op, left, value(alloc, right.get(), group)?))
         }
-        Expr::IsNull { arg, negated } => nullness(value(arg.get(), tuple), *negated),
+        Expr::IsNull { arg, negated } => Ok(nullness(value(alloc, arg.get(), group)?, *negated)),
         Expr::Among {
             arg,
             members,
             negated,
-        } => among(value(arg.get(), tuple), members.as_slice(), tuple).unless(*negated),
+        } => {
+            let arg = value(alloc, arg.get(), group)?;
+            Ok(among(alloc, arg, members.as_slice(), group)?.unless(*negated))
+        }
         Expr::Between {
             arg,
             low,
             high,
             negated,
         } => {
-            let arg = value(arg.get(), tuple);
-            let above = comparison(CompareOp::Ge, arg, value(low.get(), tuple));
-            let below = comparison(CompareOp::Le, arg, value(high.get(), tuple));
-            above.and(below).unless(*negated)
+            let arg = value(alloc, arg.get(), group)?;
+            let above = comparison(CompareOp::Ge, arg, value(alloc, low.get(), group)?);
+            let below = comparison(CompareOp::Le, arg, value(alloc, high.get(), group)?);
+            Ok(above.and(below).unless(*negated))
         }
         Expr::Like {
             arg,
             pattern,
             negated,
-        } => likeness(value(arg.get(), tuple), pattern.text()).unless(*negated),
-        _ => Truth::Unknown,
+        } => Ok(likeness(value(alloc, arg.get(), group)?, pattern.text()).unless(*negated)),
+        Expr::AnyOf { arg, column } => {
+            let arg = value(alloc, arg.get(), group)?;
+            membership(alloc, arg, group.cell(*column))
+        }
+        Expr::Aggregate { call, arg } => {
+            Ok(Truth::of_value(aggregate(alloc, *call, arg.get(), group)?))
+        }
+        Expr::Number(_)
+        | Expr::Text(_)
+        | Expr::Null
+        | Expr::Sum(_)
+        | Expr::Product(_)
+        | Expr::Minus(_)
+        | Expr::CountAll => Ok(Truth::Unknown),
     }
 }
 
 // OR of the members.
 #[cycle(lending)]
-fn any<'a>(members: &'a [Expr], tuple: &Sides<'a>) -> Truth
-    requires narrow { are_narrow (length tuple.now) members.now ≡ true }
-    requires stored { IsStorableTuple tuple.now }
-    ensures exact { result ≡ any_of (map truth_of (map (value_over tuple.now) members.now)) }
+fn any<'a>(alloc: Global, members: &'a [Expr], group: &Group<'a>) -> Result<Truth, AllocError>
+    requires narrow { are_narrow group.now.tables members.now ≡ true }
+    requires few { IsFew group.now.tables group.now.tuples }
+    requires stored { All IsStorableTuple group.now.tuples }
+    ensures ok { IfOk result (λ truth. truth ≡ any_of (map (λ v. truth_of (v group.now.tuples)) (map gives members.now))) }
 {
     let mut truth = Truth::False;
     for member in members {
-        truth = truth.or(truth_over(member, tuple));
+        truth = truth.or(truth_over(alloc, member, group)?);
         if let Truth::True = truth {
-            return truth;
+            return Ok(truth);
         }
     }
-    truth
+    Ok(truth)
 }
 
 // AND of the members.
 #[cycle(lending)]
-fn all<'a>(members: &'a [Expr], tuple: &Sides<'a>) -> Truth
-    requires narrow { are_narrow (length tuple.now) members.now ≡ true }
-    requires stored { IsStorableTuple tuple.now }
-    ensures exact { result ≡ all_of (map truth_of (map (value_over tuple.now) members.now)) }
+fn all<'a>(alloc: Global, members: &'a [Expr], group: &Group<'a>) -> Result<Truth, AllocError>
+    requires narrow { are_narrow group.now.tables members.now ≡ true }
+    requires few { IsFew group.now.tables group.now.tuples }
+    requires stored { All IsStorableTuple group.now.tuples }
+    ensures ok { IfOk result (λ truth. truth ≡ all_of (map (λ v. truth_of (v group.now.tuples)) (map gives members.now))) }
 {
     let mut truth = Truth::True;
     for member in members {
-        truth = truth.and(truth_over(member, tuple));
+        truth = truth.and(truth_over(alloc, member, group)?);
         if let Truth::False = truth {
-            return truth;
+            return Ok(truth);
         }
     }
-    truth
+    Ok(truth)
 }
 
 // Whether a value equals one of the members.
 #[cycle(lending)]
-fn among<'a>(arg: Option<ValueRef<'a>>, members: &'a [Expr], tuple: &Sides<'a>) -> Truth
-    requires narrow { are_narrow (length tuple.now) members.now ≡ true }
-    requires stored { IsStorableTuple tuple.now }
-    ensures exact { result ≡ any_of (map (comparison CompareOp.Eq (option_map owned arg.entry)) (map (value_over tuple.now) members.now)) }
+fn among<'a>(
+    alloc: Global,
+    arg: Option<ValueRef<'a>>,
+    members: &'a [Expr],
+    group: &Group<'a>,
+) -> Result<Truth, AllocError>
+    requires narrow { are_narrow group.now.tables members.now ≡ true }
+    requires few { IsFew group.now.tables group.now.tuples }
+    requires stored { All IsStorableTuple group.now.tuples }
+    ensures ok { IfOk result (λ truth. truth ≡ any_of (map (λ w. comparison CompareOp.Eq (option_map owned arg.entry) (w group.now.tuples)) (map gives members.now))) }
 {
     let mut truth = Truth::False;
     for member in members {
-        truth = truth.or(comparison(CompareOp::Eq, arg, value(member, tuple)));
+        truth = truth.or(comparison(CompareOp::Eq, arg, value(alloc, member, group)?));
         if let Truth::True = truth {
-            return truth;
+            return Ok(truth);
         }
     }
-    truth
+    Ok(truth)
 }
 
 // The number that an expression gives, if it gives one.
 #[cycle(lending)]
-fn number<'a>(expr: &'a Expr, tuple: &Sides<'a>) -> Option<i128>
-    requires narrow { (width_of (length tuple.now) expr.now).narrow ≡ true }
-    requires stored { IsStorableTuple tuple.now }
-    ensures exact { result ≡ number_of (value_over tuple.now expr.now) }
-    ensures within { IfSome result (IsNumberWithin (width_of (length tuple.now) expr.now).bits) }
+fn number<'a>(
+    alloc: Global,
+    expr: &'a Expr,
+    group: &Group<'a>,
+) -> Result<Option<i128>, AllocError>
+    requires narrow { (width_of group.now.tables expr.now).narrow ≡ true }
+    requires few { IsFew group.now.tables group.now.tuples }
+    requires stored { All IsStorableTuple group.now.tuples }
+    ensures ok { IfOk result (λ n. n ≡ number_of (value_over group.now.tuples expr.now)) }
+    ensures within { IfOk result (λ n. IfSome n (IsNumberWithin (width_of group.now.tables expr.now).bits)) }
 {
-    match value(expr, tuple) {
-        Some(ValueRef::Int(n)) => Some(n),
-        _ => None,
+    match value(alloc, expr, group)? {
+        Some(ValueRef::Int(n)) => Ok(Some(n)),
+        _ => Ok(None),
     }
 }
 
 // The sum of the members, if each is a number.
 #[cycle(lending)]
-fn sum<'a>(addends: &'a [Addend], tuple: &Sides<'a>) -> Option<i128>
-    requires narrow { addends_are_narrow (length tuple.now) addends.now ≡ true }
-    requires few { sum_bits (bits_of (map (width_in (length tuple.now)) addends.now)) ≤ 126 }
-    requires stored { IsStorableTuple tuple.now }
-    ensures exact { result ≡ sum_of (map (added_over tuple.now) addends.now) }
-    ensures within { IfSome result (IsNumberWithin (sum_bits (bits_of (map (width_in (length tuple.now)) addends.now)))) }
+fn sum<'a>(
+    alloc: Global,
+    addends: &'a [Addend],
+    group: &Group<'a>,
+) -> Result<Option<i128>, AllocError>
+    requires narrow { addends_are_narrow group.now.tables addends.now ≡ true }
+    requires bits { sum_bits (bits_of (map (width_in group.now.tables) addends.now)) ≤ 126 }
+    requires few { IsFew group.now.tables group.now.tuples }
+    requires stored { All IsStorableTuple group.now.tuples }
+    ensures ok { IfOk result (λ total. total ≡ sum_of (map (added_over group.now.tuples) addends.now)) }
+    ensures within { IfOk result (λ total. IfSome total (IsNumberWithin (sum_bits (bits_of (map (width_in group.now.tables) addends.now))))) }
 {
     let mut total = 0;
     for addend in addends {
-        total = plus(total, addend.minus, number(&addend.expr, tuple)?);
+        let Some(n) = number(alloc, &addend.expr, group)? else {
+            return Ok(None);
+        };
+        total = plus(total, addend.minus, n);
     }
-    Some(total)
+    Ok(Some(total))
 }
 
 // The product of the members, if each is a number.
 #[cycle(lending)]
-fn product<'a>(members: &'a [Expr], tuple: &Sides<'a>) -> Option<i128>
-    requires narrow { are_narrow (length tuple.now) members.now ≡ true }
-    requires few { sum (bits_of (map (width_of (length tuple.now)) members.now)) ≤ 126 }
-    requires stored { IsStorableTuple tuple.now }
-    ensures exact { result ≡ product_of (map number_of (map (value_over tuple.now) members.now)) }
-    ensures within { IfSome result (IsNumberWithin (sum (bits_of (map (width_of (length tuple.now)) members.now)))) }
+fn product<'a>(
+    alloc: Global,
+    members: &'a [Expr],
+    group: &Group<'a>,
+) -> Result<Option<i128>, AllocError>
+    requires narrow { are_narrow group.now.tables members.now ≡ true }
+    requires bits { sum (bits_of (map (width_of group.now.tables) members.now)) ≤ 126 }
+    requires few { IsFew group.now.tables group.now.tuples }
+    requires stored { All IsStorableTuple group.now.tuples }
+    ensures ok { IfOk result (λ total. total ≡ product_of (map (λ v. number_of (v group.now.tuples)) (map gives members.now))) }
+    ensures within { IfOk result (λ total. IfSome total (IsNumberWithin (sum (bits_of (map (width_of group.now.tables) members.now))))) }
 {
     let mut total = 1;
     for member in members {
-        total = times(total, number(member, tuple)?);
+        let Some(n) = number(alloc, member, group)? else {
+            return Ok(None);
+        };
+        total = times(total, n);
     }
-    Some(total)
+    Ok(Some(total))
+}
+
+// What an aggregate makes of its argument over each tuple by itself.
+#[cycle(lending)]
+fn aggregate<'a>(
+    alloc: Global,
+    call: AggCall,
+    arg: &'a Expr,
+    group: &Group<'a>,
+) -> Result<Option<ValueRef<'a>>, AllocError>
+    requires narrow { (width_of group.now.tables arg.now).narrow ≡ true }
+    requires bits { aggregate_bits group.now.tables call (width_of group.now.tables arg.now).bits ≤ 126 }
+    requires few { IsFew group.now.tables group.now.tuples }
+    requires stored { All IsStorableTuple group.now.tuples }
+    ensures ok { IfOk result (λ given. option_map owned given ≡ aggregate call (of_each (gives arg.now) group.now.tuples)) }
+    ensures within { IfOk result (λ given. IfSome given (IsWithin (aggregate_bits group.now.tables call (width_of group.now.tables arg.now).bits))) }
+{
+    match call {
+        AggCall::Count => Ok(Some(ValueRef::Int(count(alloc, arg, group)? as i128))),
+        AggCall::Sum => Ok(lent(total(alloc, arg, group)?)),
+        AggCall::Min | AggCall::Max => outermost(alloc, call, arg, group),
+    }
+}
+
+// How many tuples have a value.
+#[cycle(lending)]
+fn count<'a>(alloc: Global, arg: &'a Expr, group: &Group<'a>) -> Result<usize, AllocError>
+    requires narrow { (width_of group.now.tables arg.now).narrow ≡ true }
+    requires few { IsFew group.now.tables group.now.tuples }
+    requires stored { All IsStorableTuple group.now.tuples }
+    ensures ok { IfOk result (λ count. count ≡ count_of (of_each (gives arg.now) group.now.tuples)) }
+    ensures within { IfOk result (λ count. count ≤ length group.now.tuples) }
+{
+    let mut count = 0;
+    for index in 0..group.len() {
+        if value(alloc, arg, &group.only(index))?.is_some() {
+            count += 1;
+        }
+    }
+    Ok(count)
+}
+
+// The sum of the numbers that the tuples have.
+#[cycle(lending)]
+fn total<'a>(alloc: Global, arg: &'a Expr, group: &Group<'a>) -> Result<Option<i128>, AllocError>
+    requires narrow { (width_of group.now.tables arg.now).narrow ≡ true }
+    requires bits { aggregate_bits group.now.tables AggCall.Sum (width_of group.now.tables arg.now).bits ≤ 126 }
+    requires few { IsFew group.now.tables group.now.tuples }
+    requires stored { All IsStorableTuple group.now.tuples }
+    ensures ok { IfOk result (λ total. total ≡ total_of (map number_of (of_each (gives arg.now) group.now.tuples))) }
+    ensures within { IfOk result (λ total. IfSome total (IsNumberWithin (aggregate_bits group.now.tables AggCall.Sum (width_of group.now.tables arg.now).bits))) }
+{
+    let mut total = None;
+    for index in 0..group.len() {
+        total = plus_if(total, number(alloc, arg, &group.only(index))?);
+    }
+    Ok(total)
+}
+
+// The value that MIN or MAX keeps of those that the tuples have.
+#[cycle(lending)]
+fn outermost<'a>(
+    alloc: Global,
+    call: AggCall,
+    arg: &'a Expr,
+    group: &Group<'a>,
+) -> Result<Option<ValueRef<'a>>, AllocError>
+    requires narrow { (width_of group.now.tables arg.now).narrow ≡ true }
+    requires few { IsFew group.now.tables group.now.tuples }
+    requires stored { All IsStorableTuple group.now.tuples }
+    ensures ok { IfOk result (λ best. option_map owned best ≡ put_from (chosen call) None (of_each (gives arg.now) group.now.tuples)) }
+    ensures within { IfOk result (λ best. IfSome best (IsWithin (width_of group.now.tables arg.now).bits)) }
+{
+    let mut best = None;
+    for index in 0..group.len() {
+        best = better(call, best, value(alloc, arg, &group.only(index))?);
+    }
+    Ok(best)
 }

@@ -6,6 +6,7 @@
 #![tactic(auto)]
 
 mod addend;
+mod aggregation;
 mod arithmetic;
 mod column_test;
 mod copying;
@@ -13,10 +14,12 @@ mod delete_plan;
 mod evaluation;
 mod expr;
 mod from_plan;
+mod group;
 mod join_plan;
 mod key_plan;
 mod laws;
 mod lending;
+mod lent_order;
 mod operators;
 mod out_row;
 mod pattern;
@@ -35,10 +38,12 @@ pub use delete_plan::DeletePlan;
 pub use evaluation::{eval, truth};
 pub use expr::Expr;
 pub use from_plan::FromPlan;
+pub use group::Group;
 pub use join_plan::JoinPlan;
 pub use key_plan::KeyPlan;
 pub use laws::{meanings_are_on_one_line, resolving_keeps_meaning};
 pub use lending::value;
+pub use lent_order::order;
 pub use out_row::OutRow;
 pub use pattern::like;
 pub use row_columns::{CellColumn, Place, Sides, TableRows, Tuples, ValueRef};

@@ -1,14 +1,15 @@
-ghost use Rattle.std.specs.Prelude.{◌≡◌, option_map};
-ghost use Rattle.doc_values.specs.Order.{compared};
-ghost use Rattle.sql_eval.specs.Operators.{comparison, likeness, nullness};
+ghost use Rattle.std.specs.Prelude.{◌≡◌, IfOk, option_map};
+ghost use Rattle.sql_eval.specs.Operators.{comparison, likeness, membership, nullness};
 ghost use Rattle.sql_eval.specs.Truth.{truth_of};
 ghost use Rattle.row_columns.specs.Lent.{owned};
 
+use crate::lent_order::compare;
 use crate::pattern::like;
 use crate::truth_value::Truth;
+use array_elements::has_element;
 use doc_values::CompareOp;
 use row_columns::ValueRef;
-use std::cmp::Ordering;
+use std::alloc::{AllocError, Global};
 
 // A comparison, unknown where a side is NULL or the kinds differ.
 pub(crate) fn comparison(op: CompareOp, left: Option<ValueRef>, right: Option<ValueRef>) -> Truth
@@ -20,20 +21,6 @@ pub(crate) fn comparison(op: CompareOp, left: Option<ValueRef>, right: Option<Va
             None => Truth::Unknown,
         },
         (None, _) | (_, None) => Truth::Unknown,
-    }
-}
-
-// How two values of one kind compare.
-fn compare(left: ValueRef, right: ValueRef) -> Option<Ordering>
-    ensures exact { result ≡ compared (owned left.entry) (owned right.entry) }
-{
-    match (left, right) {
-        (ValueRef::Bool(left), ValueRef::Bool(right)) => Some(left.cmp(&right)),
-        (ValueRef::Int(left), ValueRef::Int(right)) => Some(left.cmp(&right)),
-        (ValueRef::Text(left), ValueRef::Text(right)) => Some(left.cmp(right)),
-        (ValueRef::Array(left), ValueRef::Array(right)) => Some(left.cmp(right)),
-        (ValueRef::Object, ValueRef::Object) => Some(Ordering::Equal),
-        _ => None,
     }
 }
 
@@ -52,4 +39,20 @@ pub(crate) fn nullness(value: Option<ValueRef>, negated: bool) -> Truth
     ensures exact { result ≡ truth_of (nullness negated (option_map owned value.entry)) }
 {
     Truth::of(Some(value.is_none() != negated))
+}
+
+// `= ANY`, unknown where a side is NULL.
+pub(crate) fn membership(
+    alloc: Global,
+    value: Option<ValueRef>,
+    array: Option<ValueRef>,
+) -> Result<Truth, AllocError>
+    ensures ok { IfOk result (λ truth. truth ≡ membership (option_map owned value.entry) (option_map owned array.entry)) }
+{
+    match (value, array) {
+        (Some(value), Some(ValueRef::Array(text))) => {
+            Ok(Truth::of(Some(has_element(alloc, text, value)?)))
+        }
+        _ => Ok(Truth::Unknown),
+    }
 }

@@ -1,0 +1,70 @@
+ghost use Rattle.std.specs.Prelude.{◌≡◌, ◌<◌, [], length, get_or, option_map};
+ghost use Rattle.row_columns.specs.Lent.{owned};
+ghost use Rattle.row_columns.specs.Placed.{tuples_of};
+ghost use Rattle.sql_eval.specs.Groups.{first_of, alone};
+ghost use Rattle.sql_eval.specs.Resolved.{cell_at};
+
+use crate::slot::Slot;
+use row_columns::{Place, Sides, TableRows, ValueRef};
+use std::marker::Model;
+use std::slice;
+
+/// A group of tuples, lent: the rows of the tables, and of each tuple the numbers of its rows. It also tells how many
+/// tables the tuples are of, so that an empty group does.
+#[derive(Drop)]
+pub struct Group<'a> {
+    count: usize,
+    tables: &'a [TableRows],
+    places: &'a [Place],
+}
+
+impl<'a> Model for Group<'a> {
+    ghost use Rattle.row_columns.specs.Placed.{tuples_of};
+    ghost use Rattle.sql_eval.specs.Resolved.{GroupOf};
+
+    ghost Value = { GroupOf };
+
+    ghost view = { λ g. record { tables = g.count; tuples = tuples_of g.tables.now g.places.now } };
+}
+
+impl<'a> Group<'a> {
+    /// The group of these places, in tuples of so many tables.
+    pub fn new(count: usize, tables: &'a [TableRows], places: &'a [Place]) -> Group<'a>
+        ensures exact { result ≡ record { tables = count; tuples = tuples_of tables.now places.now } }
+    {
+        Group {
+            count,
+            tables,
+            places,
+        }
+    }
+
+    /// How many tuples there are.
+    pub fn len(&self) -> usize
+        ensures exact { result ≡ length self.now.tuples }
+    {
+        self.places.len()
+    }
+
+    /// One of its tuples, by itself.
+    pub fn only(&self, index: usize) -> Group<'a>
+        requires { index < length self.now.tuples }
+        ensures exact { result ≡ record { tables = self.now.tables; tuples = alone (get_or self.now.tuples index []) } }
+    {
+        let places = self.places;
+        Group {
+            count: self.count,
+            tables: self.tables,
+            places: slice::from_ref(&places[index]),
+        }
+    }
+
+    /// The value of a column in the first tuple; none where it is NULL, where the side is missing, and where there is no
+    /// tuple or no such column.
+    pub fn cell(&self, slot: Slot) -> Option<ValueRef<'a>>
+        ensures exact { option_map owned result ≡ cell_at (first_of self.now.tuples) slot }
+    {
+        let place = self.places.first()?;
+        Sides::new(self.tables, *place).cell(slot.table, slot.column)
+    }
+}
