@@ -1,5 +1,6 @@
 -- The equations of what expressions mean and need.
-use Rattle.std.proofs.Common.{◌≡◌, ℕ, ◌≤◌, ℤ, neg_ℤ, Bool, true, false, ◌&&◌, List, [], ◌∷◌, Option, Some, option_map, if◌then◌else◌, sym, ap, ◌∙◌, refl}
+use Rattle.std.proofs.Common.{◌≡◌, ℕ, ◌≤◌, ℤ, neg_ℤ, Bool, true, false, ◌&&◌, List, [], ◌∷◌, map, sum, Option, Some, None, option_map, if◌then◌else◌, sym, ap, ◌∙◌, refl}
+use Rattle.std.specs.Prelude.{IfSome}
 use Rattle.std.proofs.Math.Nat.{le_trans}
 use Rattle.std.proofs.Math.Pow.{pow_mono}
 use Rattle.std.proofs.lemmas.Bool.{leb-true}
@@ -10,7 +11,8 @@ use Rattle.sql_eval.specs.declared.expr.Expr.TheVariants as expr
 use Rattle.sql_eval.specs.declared.expr.Expr.TheFolds.{fold-roll-Expr, fold_out-Addend}
 use Rattle.sql_eval.specs.Operators.{number_of, signed}
 use Rattle.sql_eval.specs.Resolved.{RowGroup, Gives, value_step, added_step, value_over, added_over}
-use Rattle.sql_eval.specs.Widths.{Width, over, width_step, width_of, width_in}
+use Rattle.sql_eval.proofs.ValueEquations.{added_of}
+use Rattle.sql_eval.specs.Widths.{Width, over, width_step, width_of, width_in, bits_of}
 use Rattle.sql_eval.specs.Within.{IsNumberWithin}
 
 -- A member of a sum needs what its expression needs.
@@ -40,3 +42,16 @@ narrow-Minus k e h = leb-true (width_of k e).bits 126 (and_first _ _ (sym (ap (�
 -- What is within some bits is within more.
 pub within_more : (bits more : ℕ) (n : ℤ) → bits ≤ more → IsNumberWithin bits n → IsNumberWithin more n
 within_more bits more n h inside = le_trans inside (pow_mono {i = bits} {j = more} h)
+
+pub some_within_more : (bits more : ℕ) (n : Option ℤ) → bits ≤ more → IfSome n (IsNumberWithin bits) → IfSome n (IsNumberWithin more)
+some_within_more bits more None h inside = tt
+some_within_more bits more (Some n) h inside = within_more bits more n h inside
+
+-- What the members of a sum add over a group.
+pub each_adds : (group : RowGroup) (members : List Addend) → map (added_over group) members ≡ map (λ n. n group) (map added_of members)
+each_adds group [] = refl
+each_adds group (a ∷ members) = ap (λ rest. added_over group a ∷ rest) (each_adds group members)
+
+-- A product needs the bits of all members.
+pub bits-Product : (k : ℕ) (es : List Expr) → (width_of k (expr.Product es)).bits ≡ sum (bits_of (map (width_of k) es))
+bits-Product k es = ap (λ w. w.bits) (ap (width_of k) (sym (expr.rolls-Product es)) ∙ fold-roll-Expr Width Width (width_step k) (λ a. a.expr) (Expr-F.Product es))

@@ -1,7 +1,8 @@
 -- How far totals and products can go.
-use Rattle.std.proofs.Common.{◌≡◌, ℕ, suc, ◌+◌, ◌*◌, ◌^◌, ◌<◌, ◌≤◌, max, ℤ, pos, ◌+ℤ◌, ◌*ℤ◌, nat_abs, List, [], ◌∷◌, length, drop, get_or, sum, Option, Some, None, option_map, refl, sym, ap, ◌∙◌, add-one, arith}
+use Rattle.std.proofs.Common.{◌≡◌, ℕ, suc, ◌+◌, ◌*◌, ◌^◌, ◌<◌, ◌≤◌, max, ℤ, pos, ◌+ℤ◌, ◌*ℤ◌, nat_abs, List, [], ◌∷◌, length, drop, get_or, sum, Option, Some, None, option_map, refl, sym, ap, subst, ◌∙◌, add-one, arith}
 use Rattle.std.proofs.Math.Pow.{pow_mono}
-use Rattle.std.proofs.Math.Nat.{mul-le-mul}
+use Rattle.std.specs.Prelude.{IfSome}
+use Rattle.std.proofs.Math.Nat.{mul-le-mul, le_trans}
 use Rattle.std.proofs.Math.Seq.{drop-cons}
 use Rattle.std.proofs.Math.IntN.{+ℤ_assoc}
 use Rattle.sql_eval.proofs.Products.{times_assoc}
@@ -9,7 +10,8 @@ use Rattle.std.proofs.lemmas.Nat.{pow-add}
 use Rattle.std.proofs.lemmas.List.Sums.{sum_by-cons}
 use Rattle.sql_eval.specs.Operators.{sum_of, product_of}
 use Rattle.sql_eval.specs.Widths.{sum_bits, sum_bits_from}
-use Rattle.sql_eval.specs.Within.{IsNumberWithin}
+use Rattle.sql_eval.specs.Resolved.{RowGroup}
+use Rattle.sql_eval.specs.Within.{IsNumberWithin, magnitude}
 
 -- A total before its first member is 0, and behind some members it is within the bits so far.
 abbrev pub IsTotal : Option ℕ → ℤ → Type 0
@@ -92,3 +94,33 @@ pub product_same : (t n r : ℤ) (m : Option ℤ) (ms left : List (Option ℤ)) 
 product_same t n r m ms left e is total =
     let one : left ≡ Some n ∷ ms = e ∙ ap (λ x. x ∷ ms) is in
     multiplied t n r total (product_of ms) ∙ sym (ap (λ xs. option_map (λ rest. t *ℤ rest) (product_of xs)) one)
+
+-- ---- totals of groups
+
+-- The tuple at an index, and what is left behind it.
+pub turn : (group : RowGroup) (i : ℕ) → i < length group → drop i group ≡ get_or group i [] ∷ drop (i + 1) group
+turn group i h = rw add-one (drop-cons group i [] h)
+
+-- A number that may be missing, within the bits of one that is there.
+pub magnitude_within : (bits : ℕ) (n : Option ℤ) → IfSome n (IsNumberWithin bits) → magnitude n ≤ 2 ^ bits
+magnitude_within bits None h = omega arith
+magnitude_within bits (Some n) h = h
+
+times_within : (count bits more : ℕ) → count ≤ 2 ^ more → count * 2 ^ bits ≤ 2 ^ (bits + more)
+times_within count bits more h =
+    let same : more + bits ≡ bits + more = omega arith in
+    let one : 2 ^ bits ≤ 2 ^ bits = omega arith in
+    subst (λ k. count * 2 ^ bits ≤ 2 ^ k) same (rw (pow-add 2 more bits) (mul-le-mul h one))
+
+-- The total of some tuples and the number of one more stay within 126 bits together.
+pub total_fits : (a b index count bits more : ℕ) → a ≤ index * 2 ^ bits → b ≤ 2 ^ bits → index < count → count ≤ 2 ^ more → bits + more ≤ 126 → a + b ≤ 2 ^ 126
+total_fits a b index count bits more h k below most few =
+    let next_one : (index + 1) * 2 ^ bits ≤ 2 ^ (bits + more) = times_within (index + 1) bits more (omega (arith, below, most)) in
+    let high : 2 ^ (bits + more) ≤ 2 ^ 126 = pow_mono {i = bits + more} {j = 126} few in
+    let apart : (index + 1) * 2 ^ bits ≡ index * 2 ^ bits + 2 ^ bits = search arith in
+    omega (arith, h, k, next_one, high, apart)
+
+-- The total of all tuples is within the bits of SUM.
+pub total_within : (n : Option ℤ) (index bits more : ℕ) → magnitude n ≤ index * 2 ^ bits → index ≤ 2 ^ more → IfSome n (IsNumberWithin (bits + more))
+total_within None index bits more h k = tt
+total_within (Some n) index bits more h k = le_trans h (times_within index bits more k)

@@ -1,10 +1,9 @@
 // Laws of the definitions, for the crates above.
-ghost use Rattle.std.specs.Prelude.{ℕ, List, Option, IfSome};
+ghost use Rattle.std.specs.Prelude.{ℕ, All, List, Option, IfSome};
 ghost use Rattle.doc_values.specs.declared.kind.Kind.{Kind};
 ghost use Rattle.doc_values.specs.Value.{HasOneLineArray};
-ghost use Rattle.doc_values.specs.Doc.{Fields};
 ghost use Rattle.sql_tree.specs.declared.term.Term.{Term};
-ghost use Rattle.sql_eval.specs.Meaning.{meaning};
+ghost use Rattle.sql_eval.specs.Meaning.{Group, meaning};
 ghost use Rattle.sql_eval.specs.OneLine.{HaveOneLineArrays};
 ghost use Rattle.sql_eval.specs.Resolves.{KeepsMeaning};
 
@@ -15,5 +14,5 @@ pub fn resolving_keeps_meaning()
 
 /// What a term means stays on its line where the arrays of the documents do: no term makes an array of its own.
 pub fn meanings_are_on_one_line()
-    ensures kept { (scope : List (List ℕ)) (sides : List (Option Fields)) (t : Term) (want : Option Kind) → HaveOneLineArrays sides → IfSome (meaning scope sides t want) HasOneLineArray }
+    ensures kept { (scope : List (List ℕ)) (group : Group) (t : Term) (want : Option Kind) → All HaveOneLineArrays group → IfSome (meaning scope group t want) HasOneLineArray }
 {}
