@@ -1,5 +1,5 @@
 -- What is printed of the tables of a question spells them.
-use Rattle.std.proofs.Common.{◌≡◌, ℕ, List, [], ◌∷◌, ◌++◌, Bool, Option, sym, subst, ap, ◌∙◌, append_assoc}
+use Rattle.std.proofs.Common.{◌≡◌, ℕ, List, [], ◌∷◌, ◌++◌, Option, sym, subst, ap, ◌∙◌, append_assoc}
 use Rattle.sql_tree.specs.declared.join.Join.{Join}
 use Rattle.sql_tree.specs.declared.join_way.JoinWay.{JoinWay}
 use Rattle.sql_tree.specs.declared.table.Table.{Table}
@@ -8,7 +8,7 @@ use Rattle.sql_grammar.specs.declared.mark.Mark.TheVariants as marks
 use Rattle.sql_grammar.specs.declared.terminal.Terminal.{Terminal}
 use Rattle.sql_grammar.specs.declared.terminal.Terminal.TheVariants as terminal
 use Rattle.sql_grammar.specs.Tables.{Alias, announced, ATable, table, Way, comma, join, inner_join, left_join, left_outer_join, Condition, free, on, From, Others, last, another, AFrom, from}
-use Rattle.sql_syntax.specs.PrintingQuery.{expression_printed, alias_printed, table_printed, way_printed, behind_printed, joined_printed, others_printed, tables_printed}
+use Rattle.sql_syntax.specs.PrintingQuery.{alias_printed, table_printed, way_printed, behind_printed, others_printed, tables_printed}
 use Rattle.sql_syntax.proofs.PrintParts.{Each, each_append, each_front, each_back, Written}
 use Rattle.sql_syntax.proofs.PrintLeaves.{Fitting}
 use Rattle.sql_syntax.proofs.PrintAgain.{expression_again}

@@ -1,5 +1,5 @@
 -- Joined tables written one after another.
-use Rattle.std.proofs.Common.{◌≡◌, ℕ, suc, ◌+◌, ◌<◌, ◌≤◌, List, [], ◌∷◌, ◌++◌, length, drop, ◌⊎◌, inl, inr, get_or, refl, sym, ap, ap₂, ◌∙◌, arith, append-nil}
+use Rattle.std.proofs.Common.{◌≡◌, ℕ, ◌+◌, ◌<◌, List, [], ◌∷◌, ◌++◌, length, drop, ◌⊎◌, inl, inr, get_or, refl, sym, ap, ap₂, ◌∙◌, arith, append-nil}
 use Rattle.std.proofs.lemmas.List.{drop_more}
 use Rattle.sql_tree.specs.declared.join.Join.{Join}
 use Rattle.sql_tree.specs.declared.table.Table.{Table}

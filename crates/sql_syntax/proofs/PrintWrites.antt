@@ -1,5 +1,5 @@
 -- What is printed of an update or a delete spells it.
-use Rattle.std.proofs.Common.{◌≡◌, ℕ, List, [], ◌∷◌, ◌++◌, map, refl}
+use Rattle.std.proofs.Common.{◌≡◌, List, [], ◌∷◌, ◌++◌, map, refl}
 use Rattle.std.specs.Prelude.{codes}
 use Rattle.sql_tree.specs.declared.set.Set.{Set}
 use Rattle.sql_tree.specs.declared.statement.Statement.{Statement}
@@ -10,7 +10,7 @@ use Rattle.sql_grammar.specs.Expression.{quoted}
 use Rattle.sql_grammar.specs.Query.{parts}
 use Rattle.sql_grammar.specs.Write.{ASet, set, Write, update, delete}
 use Rattle.sql_syntax.specs.Printing.{joined_by}
-use Rattle.sql_syntax.specs.PrintingQuery.{expression_printed, behind_printed, set_printed}
+use Rattle.sql_syntax.specs.PrintingQuery.{behind_printed, set_printed}
 use Rattle.sql_syntax.specs.PrintingText.{sets_printed, text_printed, statement_printed}
 use Rattle.sql_syntax.proofs.PrintParts.{Each, each_append, each_front, each_back, Written, listed_again}
 use Rattle.sql_syntax.proofs.PrintLeaves.{Fitting, name_fits}
