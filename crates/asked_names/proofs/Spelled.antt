@@ -14,6 +14,7 @@ use Rattle.sql_grammar.specs.declared.terminal.Terminal.{Terminal}
 use Rattle.sql_grammar.specs.declared.terminal.Terminal.TheVariants as terminal
 use Rattle.sql_grammar.specs.Languages as language
 use Rattle.sql_grammar.specs.Expression as expression
+use Rattle.sql_grammar.specs.Tables as tables
 use Rattle.sql_grammar.specs.Query as query
 use Rattle.sql_grammar.specs.Statement as grammar
 use Rattle.sql_syntax.specs.PrintingText.{spaced, text_printed}
@@ -34,7 +35,7 @@ table = record { collection = codes "t"; alias = None }
 
 -- The question, and what it is written with.
 abbrev asking : List ℕ → Select
-asking name = query.question false false (item name ∷ []) table (record { test = None; keys = None; limit = None })
+asking name = query.question false false (item name ∷ []) (table ∷ [], []) (record { test = None; grouping = None; having = None; keys = None; limit = None })
 
 abbrev terminals : List ℕ → List Terminal
 terminals name = terminal.Mark marks.Select ∷ terminal.Quoted name ∷ terminal.Mark marks.From ∷ terminal.Word (codes "t") ∷ []
@@ -48,9 +49,9 @@ quoted name =
 spelled : (name : List ℕ) → query.Question (asking name) (terminals name)
 spelled name =
     query.select query.all
-    (query.parts (omega arith) (language.chain (query.item (quoted name) query.none) language.none))
-    (query.table refl query.none)
-    (query.tail language.absent language.absent language.absent)
+    (query.parts (omega arith) (language.chain (query.item (quoted name) tables.none) language.none))
+    (tables.from (omega arith) (tables.table refl tables.none) tables.last)
+    (query.tail language.absent language.absent language.absent language.absent language.absent)
 
 short : (name : List ℕ) → is_quoted_name name ≡ true → length (text_printed (terminals name)) ≤ most_statement_bytes
 short name h =

@@ -11,7 +11,7 @@ use Rattle.sql_grammar.specs.Languages.{Language, plain}
 use Rattle.sql_grammar.specs.Reader.{Reader, takes}
 use Rattle.sql_grammar.specs.Expression as e
 use Rattle.sql_grammar.specs.Expression.{Place, Neg, Conj, Expr, Level, Inside, Expression, most_levels}
-use Rattle.sql_grammar.specs.TestReader.{neg_by, neg_in, conj_in, expr_in, level_in, inside_in, expression_in}
+use Rattle.sql_grammar.specs.LevelReader.{neg_by, neg_in, conj_in, expr_in, level_in, inside_in, expression_in}
 use Rattle.sql_grammar.proofs.Marks.{Stops, only-binds, takes-found, takes-at}
 use Rattle.sql_grammar.proofs.Reading.{Front, Reads, bind-found, fronted}
 use Rattle.sql_grammar.proofs.Chains.{chain-reads}

@@ -6,12 +6,8 @@ pub mod Names
 pub mod Primaries
 pub mod Tests
 pub mod Levels
-pub mod Steps
-pub mod Ahead
 pub mod Queries
 pub mod Questions
 pub mod Runs
 pub mod LoadTexts
 pub mod Texts
-pub mod Aliases
-pub mod Inside

@@ -12,7 +12,7 @@ use Rattle.sql_grammar.specs.declared.terminal.Terminal.TheVariants as terminal
 use Rattle.sql_grammar.specs.Terminals.{is_alias, only}
 use Rattle.sql_grammar.specs.Languages.{Language, Optional, absent, present, Listed, plain}
 use Rattle.sql_grammar.specs.Reader.{Reader, ◌>>=◌, takes, expect, optional_by, optional_in, listed_in}
-use Rattle.sql_grammar.specs.TestReader.{expression_in}
+use Rattle.sql_grammar.specs.LevelReader.{expression_in}
 use Rattle.sql_grammar.specs.Query as q
 use Rattle.sql_grammar.specs.Query.{Alias, AnItem, ATable, Direction, AKey, AtMost, Keys, Numeral, is_numeral, most_parts}
 use Rattle.sql_grammar.specs.QueryReader.{alias_in, bare_alias_in, named_by, named_in, item_in, table_in, descending_by, direction_by, direction_in, key_in, at_most_in, keys_in, numeral_in}

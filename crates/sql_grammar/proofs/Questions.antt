@@ -12,7 +12,7 @@ use Rattle.sql_grammar.specs.Terminals.{only}
 use Rattle.sql_grammar.specs.Languages.{Optional, absent, present, Listed, plain}
 use Rattle.sql_grammar.specs.Reader.{Found, ◌>>=◌, takes, expect, optional_in, listed_in, first_by}
 use Rattle.sql_grammar.specs.Expression.{Expression, Inside, most_levels}
-use Rattle.sql_grammar.specs.TestReader.{expression_in}
+use Rattle.sql_grammar.specs.LevelReader.{expression_in}
 use Rattle.sql_grammar.specs.Query as q
 use Rattle.sql_grammar.specs.Query.{AnItem, ATable, AtMost, Keys, Numeral, Distinct, Tail, ATail, Question, question}
 use Rattle.sql_grammar.specs.QueryReader.{item_in, table_in, at_most_in, keys_in, numeral_in, tail_in, from_in, shown_by, shown_in, distinct_in, question_in, whole}

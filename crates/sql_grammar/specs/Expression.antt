@@ -2,6 +2,8 @@
 use Rattle.std.specs.Prelude.{◌≡◌, ℕ, zero, suc, List, [], ◌∷◌, ◌++◌, Bool, true, false, Some, None}
 use Rattle.doc_values.specs.declared.kind.Kind.{Kind}
 use Rattle.doc_values.specs.declared.compare_op.CompareOp.{CompareOp}
+use Rattle.sql_tree.specs.declared.agg_call.AggCall.{AggCall}
+use Rattle.sql_tree.specs.declared.agg_call.AggCall.TheVariants as calls
 use Rattle.sql_tree.specs.declared.reference.Ref.{Ref}
 use Rattle.sql_tree.specs.declared.term.Term.{Term}
 use Rattle.sql_tree.specs.declared.term.Term.TheVariants as term
@@ -9,16 +11,17 @@ use Rattle.sql_grammar.specs.declared.mark.Mark.{Mark}
 use Rattle.sql_grammar.specs.declared.mark.Mark.TheVariants as marks
 use Rattle.sql_grammar.specs.declared.terminal.Terminal.{Terminal}
 use Rattle.sql_grammar.specs.declared.terminal.Terminal.TheVariants as terminal
-use Rattle.sql_grammar.specs.Terminals.{is_name, is_alias, kind_of, comparison_of, sign_of, only}
+use Rattle.sql_grammar.specs.Terminals.{is_name, is_alias, kind_of, call_of, comparison_of, sign_of, only}
 use Rattle.sql_grammar.specs.Nodes.{addend, sum_node, product_node, and_node, or_node}
 use Rattle.sql_grammar.specs.Languages.{Language, Chain, Denial, Listed, plain}
 
--- What stands one level down: an expression in brackets, what a NOT denies, what a minus negates, the column of a call.
+-- What stands one level down: an expression in brackets, what a NOT denies, what a minus negates, the column of a call, the argument of an aggregate.
 pub data Place : Type 0 where
   expr : Place
   neg : Place
   unary : Place
   column : Place
+  argument : AggCall → Place
 
 -- name = word | quoted.
 pub data Name : List ℕ → List Terminal → Type 0 where
@@ -34,7 +37,7 @@ pub data Reference : Ref → List Terminal → Type 0 where
 pub data Column : Term → List Terminal → Type 0 where
   column : {r : Ref} {a : List Terminal} → Reference r a → Column (term.Column r) a
 
--- primary = numeral | text | TRUE | FALSE | NULL | ref | kind ( ref ) | ( expr ).
+-- primary = numeral | text | TRUE | FALSE | NULL | ref | kind ( ref ) | call ( argument ) | ( expr ).
 pub data Primary (Inner : Place → Language Term) : Term → List Terminal → Type 0 where
   numeral : {n : ℕ} → Primary Inner (term.Number n) (terminal.Number n ∷ [])
   text : {t : List ℕ} → Primary Inner (term.Text t) (terminal.Text t ∷ [])
@@ -43,6 +46,7 @@ pub data Primary (Inner : Place → Language Term) : Term → List Terminal → 
   null : Primary Inner term.Null (terminal.Mark marks.Null ∷ [])
   reference : {t : Term} {a : List Terminal} → Column t a → Primary Inner t a
   wanted : {w : List ℕ} {k : Kind} {r : Ref} {a : List Terminal} → kind_of w ≡ Some k → Inner column (term.Column r) a → Primary Inner (term.Wanted k r) (terminal.Word w ∷ terminal.Mark marks.Open ∷ (a ++ terminal.Mark marks.Close ∷ []))
+  aggregate : {w : List ℕ} {c : AggCall} {t : Term} {a : List Terminal} → call_of w ≡ Some c → Inner (argument c) t a → Primary Inner t (terminal.Word w ∷ terminal.Mark marks.Open ∷ (a ++ terminal.Mark marks.Close ∷ []))
   brackets : {t : Term} {a : List Terminal} → Inner expr t a → Primary Inner t (terminal.Mark marks.Open ∷ (a ++ terminal.Mark marks.Close ∷ []))
 
 -- unary = - unary | primary.
@@ -58,10 +62,11 @@ Product Inner = Chain (only marks.Star) plain product_node (Unary Inner)
 abbrev pub Sum : (Place → Language Term) → Language Term
 Sum Inner = Chain sign_of addend sum_node (Product Inner)
 
--- What stands behind a sum t in a test, and the term that the two are: nothing | cmp sum | IS [NOT] NULL | [NOT] IN ( expr {, expr} ) | [NOT] BETWEEN sum AND sum | [NOT] LIKE text.
+-- What stands behind a sum t in a test, and the term that the two are: nothing | cmp sum | = ANY ( ref ) | IS [NOT] NULL | [NOT] IN ( expr {, expr} ) | [NOT] BETWEEN sum AND sum | [NOT] LIKE text.
 pub data Behind (Inner : Place → Language Term) (t : Term) : Term → List Terminal → Type 0 where
   nothing : Behind Inner t t []
   compare : {mark : Mark} {op : CompareOp} {u : Term} {a : List Terminal} → comparison_of mark ≡ Some op → Sum Inner u a → Behind Inner t (term.Compare op t u) (terminal.Mark mark ∷ a)
+  any_of : {r : Ref} {a : List Terminal} → Inner column (term.Column r) a → Behind Inner t (term.AnyOf t r) (terminal.Mark marks.Equal ∷ terminal.Mark marks.Any ∷ terminal.Mark marks.Open ∷ (a ++ terminal.Mark marks.Close ∷ []))
   is_null : {negated : Bool} {n : List Terminal} → Denial negated n → Behind Inner t (term.IsNull t negated) (terminal.Mark marks.Is ∷ (n ++ terminal.Mark marks.Null ∷ []))
   among : {negated : Bool} {n : List Terminal} {ts : List Term} {a : List Terminal} → Denial negated n → Listed (Inner expr) ts a → Behind Inner t (term.Among t ts negated) (n ++ terminal.Mark marks.In ∷ terminal.Mark marks.Open ∷ (a ++ terminal.Mark marks.Close ∷ []))
   between : {negated : Bool} {n : List Terminal} {low high : Term} {a b : List Terminal} → Denial negated n → Sum Inner low a → Sum Inner high b → Behind Inner t (term.Between t low high negated) (n ++ terminal.Mark marks.Between ∷ (a ++ terminal.Mark marks.And ∷ b))
@@ -84,12 +89,18 @@ Conj Inner = Chain (only marks.And) plain and_node (Neg Inner)
 abbrev pub Expr : (Place → Language Term) → Language Term
 Expr Inner = Chain (only marks.Or) plain or_node (Conj Inner)
 
+-- argument = * | expr, where only COUNT takes the star.
+pub data Argument (Inner : Place → Language Term) : AggCall → Term → List Terminal → Type 0 where
+  rows : Argument Inner calls.Count term.CountAll (terminal.Mark marks.Star ∷ [])
+  each : {c : AggCall} {t : Term} {a : List Terminal} → Expr Inner t a → Argument Inner c (term.Aggregate c t) a
+
 -- What each place asks for, over what stands one level further down.
 abbrev pub Level : (Place → Language Term) → Place → Language Term
 Level Inner expr = Expr Inner
 Level Inner neg = Neg Inner
 Level Inner unary = Unary Inner
 Level Inner column = Column
+Level Inner (argument c) = Argument Inner c
 
 -- What may stand where so many levels may still be opened, the one that opens here included.
 unfoldable pub Inside : ℕ → Place → Language Term

@@ -1,6 +1,7 @@
 -- The expression that the first terminals spell, as a function: the rules of the grammar, each over the level below.
 use Rattle.std.specs.Prelude.{ℕ, List, [], ◌∷◌, true, false, Option, Some, None, if◌then◌else◌}
 use Rattle.doc_values.specs.declared.kind.Kind.{Kind}
+use Rattle.sql_tree.specs.declared.agg_call.AggCall.{AggCall}
 use Rattle.sql_tree.specs.declared.reference.Ref.{Ref}
 use Rattle.sql_tree.specs.declared.term.Term.{Term}
 use Rattle.sql_tree.specs.declared.term.Term.TheVariants as term
@@ -8,10 +9,10 @@ use Rattle.sql_grammar.specs.declared.mark.Mark.{Mark}
 use Rattle.sql_grammar.specs.declared.mark.Mark.TheVariants as marks
 use Rattle.sql_grammar.specs.declared.terminal.Terminal.{Terminal}
 use Rattle.sql_grammar.specs.declared.terminal.Terminal.TheVariants as terminal
-use Rattle.sql_grammar.specs.Terminals.{is_name, is_alias, kind_of, sign_of, only}
+use Rattle.sql_grammar.specs.Terminals.{is_name, is_alias, kind_of, call_of, sign_of, only}
 use Rattle.sql_grammar.specs.Nodes.{addend, sum_node, product_node}
 use Rattle.sql_grammar.specs.Languages.{plain}
-use Rattle.sql_grammar.specs.Expression.{Place, expr, unary, column}
+use Rattle.sql_grammar.specs.Expression.{Place, expr, unary, column, argument}
 use Rattle.sql_grammar.specs.Reader.{Found, Reader, ◌>>=◌, takes, closed, chain_in}
 
 -- A column of no alias.
@@ -52,14 +53,19 @@ abbrev pub wanted_by : Kind → Term → Reader Term
 wanted_by k (term.Column r) rest = closed (term.Wanted k r) rest
 wanted_by k _ rest = None
 
--- kind ( ref ), behind the bracket.
-abbrev pub call_by : (Place → Reader Term) → Option Kind → Reader Term
-call_by inner (Some k) all = inner column all >>= wanted_by k
-call_by inner None all = None
+-- call ( argument ), behind the bracket.
+abbrev pub aggregate_by : (Place → Reader Term) → Option AggCall → Reader Term
+aggregate_by inner (Some c) all = inner (argument c) all >>= closed
+aggregate_by inner None all = None
+
+-- kind ( ref ) or call ( argument ), behind the bracket.
+abbrev pub call_by : (Place → Reader Term) → List ℕ → Option Kind → Reader Term
+call_by inner w (Some k) all = inner column all >>= wanted_by k
+call_by inner w None all = aggregate_by inner (call_of w) all
 
 -- An expression that begins with a word: a call where a bracket follows, and else a ref.
 abbrev pub word_by : (Place → Reader Term) → List ℕ → List Terminal → Option (List Terminal) → Found Term
-word_by inner w all (Some rest) = call_by inner (kind_of w) rest
+word_by inner w all (Some rest) = call_by inner w (kind_of w) rest
 word_by inner w all None = reference_from w all >>= λ r rest. Some (term.Column r, rest)
 
 -- An expression that begins with a word.

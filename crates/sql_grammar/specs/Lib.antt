@@ -5,11 +5,13 @@ pub mod Expression
 pub mod Reader
 pub mod ExpressionReader
 pub mod TestReader
+pub mod LevelReader
+pub mod Tables
 pub mod Query
+pub mod TablesReader
 pub mod QueryReader
-pub mod Cursor
+pub mod Write
+pub mod WriteReader
 pub mod Words
-pub mod Faults
 pub mod Statement
 pub mod StatementReader
-pub mod Nests

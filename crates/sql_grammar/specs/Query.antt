@@ -2,6 +2,7 @@
 use Rattle.std.specs.Prelude.{◌≡◌, ℕ, ◌≤◌, List, [], ◌∷◌, ◌++◌, length, Bool, true, false, Option, Some, None}
 use Rattle.sql_tree.specs.declared.item.Item.{Item}
 use Rattle.sql_tree.specs.declared.key.Key.{Key}
+use Rattle.sql_tree.specs.declared.reference.Ref.{Ref}
 use Rattle.sql_tree.specs.declared.select.Select.{Select}
 use Rattle.sql_tree.specs.declared.table.Table.{Table}
 use Rattle.sql_tree.specs.declared.term.Term.{Term}
@@ -9,27 +10,17 @@ use Rattle.sql_tree.specs.declared.term.Term.TheVariants as term
 use Rattle.sql_grammar.specs.declared.mark.Mark.TheVariants as marks
 use Rattle.sql_grammar.specs.declared.terminal.Terminal.{Terminal}
 use Rattle.sql_grammar.specs.declared.terminal.Terminal.TheVariants as terminal
-use Rattle.sql_grammar.specs.Terminals.{is_alias}
 use Rattle.sql_grammar.specs.Languages.{Language, Optional, Listed}
-use Rattle.sql_grammar.specs.Expression.{Expression}
+use Rattle.sql_grammar.specs.Expression.{Reference, Expression}
+use Rattle.sql_grammar.specs.Tables.{Alias, ATable, From, AFrom}
 
--- The most items, and the most keys.
+-- The most items, groupings, keys and parts of a SET.
 abbrev pub most_parts : ℕ
 most_parts = 64
-
--- [[AS] alias].
-pub data Alias : Option (List ℕ) → List Terminal → Type 0 where
-  none : Alias None []
-  announced : {w : List ℕ} → is_alias w ≡ true → Alias (Some w) (terminal.Mark marks.As ∷ terminal.Word w ∷ [])
-  bare : {w : List ℕ} → is_alias w ≡ true → Alias (Some w) (terminal.Word w ∷ [])
 
 -- item = expr [[AS] alias].
 pub data AnItem : Item → List Terminal → Type 0 where
   item : {t : Term} {n : Option (List ℕ)} {a b : List Terminal} → Expression t a → Alias n b → AnItem (record { expr = t; alias = n }) (a ++ b)
-
--- table = collection [[AS] alias].
-pub data ATable : Table → List Terminal → Type 0 where
-  table : {w : List ℕ} {n : Option (List ℕ)} {a : List Terminal} → is_alias w ≡ true → Alias n a → ATable (record { collection = w; alias = n }) (terminal.Word w ∷ a)
 
 -- [ASC | DESC], and whether it is descending.
 pub data Direction : Bool → List Terminal → Type 0 where
@@ -54,10 +45,14 @@ pub data AtMost {A : Type 0} (Parts : Language (List A)) : List A → List Termi
 pub data Keys : List Key → List Terminal → Type 0 where
   keys : {ks : List Key} {a : List Terminal} → AtMost (Listed AKey) ks a → Keys ks (terminal.Mark marks.By ∷ a)
 
--- The keys that stand there.
-abbrev pub keys_of : Option (List Key) → List Key
-keys_of None = []
-keys_of (Some ks) = ks
+-- GROUP BY ref {, ref}, behind GROUP.
+pub data Groups : List Ref → List Terminal → Type 0 where
+  groups : {gs : List Ref} {a : List Terminal} → AtMost (Listed Reference) gs a → Groups gs (terminal.Mark marks.By ∷ a)
+
+-- The parts that stand there.
+abbrev pub parts_of : {A : Type 0} → Option (List A) → List A
+parts_of None = []
+parts_of (Some xs) = xs
 
 -- A numeral.
 pub data Numeral : ℕ → List Terminal → Type 0 where
@@ -68,21 +63,25 @@ pub data Distinct : Bool → List Terminal → Type 0 where
   all : Distinct false []
   distinct : Distinct true (terminal.Mark marks.Distinct ∷ [])
 
--- What a question says behind its table.
+-- What a question says behind its tables.
 pub record Tail : Type 0 where
   pub test : Option Term
+  pub grouping : Option (List Ref)
+  pub having : Option Term
   pub keys : Option (List Key)
   pub limit : Option ℕ
 
--- [WHERE expr] [ORDER BY key {, key}] [LIMIT numeral].
+-- [WHERE expr] [GROUP BY ref {, ref}] [HAVING expr] [ORDER BY key {, key}] [LIMIT numeral].
 pub data ATail : Tail → List Terminal → Type 0 where
-  tail : {t : Option Term} {ks : Option (List Key)} {l : Option ℕ} {a b c : List Terminal} → Optional marks.Where Expression t a → Optional marks.Order Keys ks b → Optional marks.Limit Numeral l c → ATail (record { test = t; keys = ks; limit = l }) (a ++ (b ++ c))
+  tail : {t h : Option Term} {gs : Option (List Ref)} {ks : Option (List Key)} {l : Option ℕ} {a b c d e : List Terminal}
+    → Optional marks.Where Expression t a → Optional marks.Group Groups gs b → Optional marks.Having Expression h c → Optional marks.Order Keys ks d → Optional marks.Limit Numeral l e
+    → ATail (record { test = t; grouping = gs; having = h; keys = ks; limit = l }) (a ++ (b ++ (c ++ (d ++ e))))
 
--- A question of one table, from its parts.
-abbrev pub question : Bool → Bool → List Item → Table → Tail → Select
-question is_star is_distinct items from ending = record { star = is_star; distinct = is_distinct; items = items; tables = from ∷ []; joins = []; test = ending.test; grouping = []; having = None; keys = keys_of ending.keys; limit = ending.limit }
+-- A question, from its parts.
+abbrev pub question : Bool → Bool → List Item → From → Tail → Select
+question is_star is_distinct items from ending = record { star = is_star; distinct = is_distinct; items = items; tables = from.0; joins = from.1; test = ending.test; grouping = parts_of ending.grouping; having = ending.having; keys = parts_of ending.keys; limit = ending.limit }
 
--- star = SELECT [DISTINCT] * FROM table .. | select = SELECT [DISTINCT] item {, item} FROM table ..
+-- star = SELECT [DISTINCT] * FROM table .., without GROUP BY and HAVING | select = SELECT [DISTINCT] item {, item} FROM from ..
 pub data Question : Select → List Terminal → Type 0 where
-  star : {d : Bool} {t : Table} {l : Tail} {a b c : List Terminal} → Distinct d a → ATable t b → ATail l c → Question (question true d [] t l) (terminal.Mark marks.Select ∷ (a ++ terminal.Mark marks.Star ∷ terminal.Mark marks.From ∷ (b ++ c)))
-  select : {d : Bool} {is : List Item} {t : Table} {l : Tail} {a b c e : List Terminal} → Distinct d a → AtMost (Listed AnItem) is b → ATable t c → ATail l e → Question (question false d is t l) (terminal.Mark marks.Select ∷ (a ++ (b ++ terminal.Mark marks.From ∷ (c ++ e))))
+  star : {d : Bool} {t : Table} {l : Tail} {a b c : List Terminal} → Distinct d a → ATable t b → ATail l c → l.grouping ≡ None → l.having ≡ None → Question (question true d [] (t ∷ [], []) l) (terminal.Mark marks.Select ∷ (a ++ terminal.Mark marks.Star ∷ terminal.Mark marks.From ∷ (b ++ c)))
+  select : {d : Bool} {is : List Item} {f : From} {l : Tail} {a b c e : List Terminal} → Distinct d a → AtMost (Listed AnItem) is b → AFrom f c → ATail l e → Question (question false d is f l) (terminal.Mark marks.Select ∷ (a ++ (b ++ terminal.Mark marks.From ∷ (c ++ e))))

@@ -9,6 +9,7 @@ use Rattle.sql_tokens.specs.Tokens.{most_statement_bytes, IsSpace, BeginsOutside
 use Rattle.sql_grammar.specs.Terminals.{is_keyword, is_alias}
 use Rattle.sql_grammar.specs.Words.{mark_of_word, terminals_of}
 use Rattle.sql_grammar.specs.Query.{Question}
+use Rattle.sql_grammar.specs.Write.{Write}
 
 -- A word that names a collection: not reserved, and not too long.
 abbrev pub is_collection : List ℕ → Bool
@@ -36,7 +37,8 @@ pub record SpellsLoad (text collection json : List ℕ) : Type 0 where
   pub longest : BeginsOutside is_word_byte (between ++ (json ++ after))
   pub trimmed : IsTrimmed json
 
--- A text spells a statement: a load, or a question by its tokens.
+-- A text spells a statement: a load, or by its tokens a question, an update or a delete.
 pub data Spells (text : List ℕ) : Statement → Type 0 where
   load : {collection json : List ℕ} → length text ≤ most_statement_bytes → SpellsLoad text collection json → Spells text (statement.Load collection json)
   question : {select : Select} {tokens : List Token} → AreTokens text tokens → Question select (terminals_of text tokens) → Spells text (statement.Select select)
+  write : {s : Statement} {tokens : List Token} → AreTokens text tokens → Write s (terminals_of text tokens) → Spells text s

@@ -8,6 +8,8 @@ use Rattle.doc_values.specs.declared.kind.Kind.{Kind}
 use Rattle.doc_values.specs.declared.kind.Kind.TheVariants as kinds
 use Rattle.doc_values.specs.declared.compare_op.CompareOp.{CompareOp}
 use Rattle.doc_values.specs.declared.compare_op.CompareOp.TheVariants as ops
+use Rattle.sql_tree.specs.declared.agg_call.AggCall.{AggCall}
+use Rattle.sql_tree.specs.declared.agg_call.AggCall.TheVariants as calls
 use Rattle.sql_grammar.specs.declared.mark.Mark.{Mark}
 use Rattle.sql_grammar.specs.declared.mark.Mark.TheVariants as marks
 
@@ -36,6 +38,20 @@ kind_of word =
     else if is_keyword word (codes "ARRAY") then Some kinds.Array
     else None
 
+-- The aggregate that a word calls where a bracket follows it.
+abbrev pub call_of : List ℕ → Option AggCall
+call_of word =
+    if is_keyword word (codes "COUNT") then Some calls.Count
+    else if is_keyword word (codes "SUM") then Some calls.Sum
+    else if is_keyword word (codes "MIN") then Some calls.Min
+    else if is_keyword word (codes "MAX") then Some calls.Max
+    else None
+
+-- A star may stand in the brackets of the call.
+abbrev pub takes_star : AggCall → Bool
+takes_star calls.Count = true
+takes_star _ = false
+
 -- The comparison that a mark stands for.
 abbrev pub comparison_of : Mark → Option CompareOp
 comparison_of marks.Equal = Some ops.Eq
@@ -45,6 +61,11 @@ comparison_of marks.LessEqual = Some ops.Le
 comparison_of marks.Greater = Some ops.Gt
 comparison_of marks.GreaterEqual = Some ops.Ge
 comparison_of _ = None
+
+-- The comparison is the one that ANY may stand behind.
+abbrev pub is_equality : CompareOp → Bool
+is_equality ops.Eq = true
+is_equality _ = false
 
 -- Whether a mark that joins members of a sum takes its member away.
 abbrev pub sign_of : Mark → Option Bool

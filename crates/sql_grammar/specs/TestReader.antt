@@ -1,17 +1,15 @@
--- The test that the first terminals spell, as a function, and what is made of tests.
-use Rattle.std.specs.Prelude.{ℕ, zero, suc, List, ◌∷◌, Bool, true, false, Option, Some, None}
+-- The test that the first terminals spell, as a function.
+use Rattle.std.specs.Prelude.{List, ◌∷◌, Bool, true, false, Option, Some, None, if◌then◌else◌}
 use Rattle.doc_values.specs.declared.compare_op.CompareOp.{CompareOp}
 use Rattle.sql_tree.specs.declared.term.Term.{Term}
 use Rattle.sql_tree.specs.declared.term.Term.TheVariants as term
 use Rattle.sql_grammar.specs.declared.mark.Mark.TheVariants as marks
 use Rattle.sql_grammar.specs.declared.terminal.Terminal.{Terminal}
 use Rattle.sql_grammar.specs.declared.terminal.Terminal.TheVariants as terminal
-use Rattle.sql_grammar.specs.Terminals.{comparison_of, only}
-use Rattle.sql_grammar.specs.Nodes.{and_node, or_node}
-use Rattle.sql_grammar.specs.Languages.{plain}
-use Rattle.sql_grammar.specs.Expression.{Place, expr, neg, unary, column, most_levels}
-use Rattle.sql_grammar.specs.Reader.{Found, Reader, ◌>>=◌, takes, expect, closed, denial_in, joins_in, chain_in, listed_in}
-use Rattle.sql_grammar.specs.ExpressionReader.{column_in, unary_in, sum_in}
+use Rattle.sql_grammar.specs.Terminals.{comparison_of, is_equality}
+use Rattle.sql_grammar.specs.Expression.{Place, expr, column}
+use Rattle.sql_grammar.specs.Reader.{Found, Reader, ◌>>=◌, takes, expect, closed, denial_in, joins_in, listed_in}
+use Rattle.sql_grammar.specs.ExpressionReader.{sum_in}
 
 -- [NOT] LIKE text, behind LIKE.
 unfoldable pub pattern_in : Term → Bool → Reader Term
@@ -61,9 +59,27 @@ abbrev pub is_by : (Place → Reader Term) → Term → List Terminal → Option
 is_by inner t all (Some rest) = null_in t (denial_in rest)
 is_by inner t all None = denied_in inner t (denial_in all)
 
--- cmp sum.
+-- The column that ANY asks for, with the bracket that closes.
+abbrev pub any_by : Term → Term → Reader Term
+any_by t (term.Column r) rest = closed (term.AnyOf t r) rest
+any_by t _ rest = None
+
+-- ( ref ), behind = ANY.
+unfoldable pub any_in : (Place → Reader Term) → Term → Reader Term
+any_in inner t all = expect marks.Open all >>= λ _ rest. inner column rest >>= any_by t
+
+-- ANY ( ref ) behind an equality, or a sum behind any comparison.
+abbrev pub right_by : (Place → Reader Term) → Term → CompareOp → List Terminal → Option (List Terminal) → Found Term
+right_by inner t op all (Some rest) = if is_equality op then any_in inner t rest else None
+right_by inner t op all None = sum_in inner all >>= λ u rest. Some (term.Compare op t u, rest)
+
+-- ANY ( ref ) or sum, behind a comparison.
+unfoldable pub right_in : (Place → Reader Term) → Term → CompareOp → Reader Term
+right_in inner t op all = right_by inner t op all (takes marks.Any all)
+
+-- cmp sum, or = ANY ( ref ).
 abbrev pub compare_by : (Place → Reader Term) → Term → List Terminal → Found CompareOp → Found Term
-compare_by inner t all (Some p) = sum_in inner p.1 >>= λ u rest. Some (term.Compare p.0 t u, rest)
+compare_by inner t all (Some p) = right_in inner t p.0 p.1
 compare_by inner t all None = is_by inner t all (takes marks.Is all)
 
 -- What stands behind a sum.
@@ -73,36 +89,3 @@ behind_in inner t all = compare_by inner t all (joins_in comparison_of all)
 -- test.
 unfoldable pub test_in : (Place → Reader Term) → Reader Term
 test_in inner all = sum_in inner all >>= behind_in inner
-
--- neg, behind a NOT or with none.
-abbrev pub neg_by : (Place → Reader Term) → List Terminal → Option (List Terminal) → Found Term
-neg_by inner all (Some rest) = inner neg rest >>= λ t rest. Some (term.Not t, rest)
-neg_by inner all None = test_in inner all
-
--- neg.
-unfoldable pub neg_in : (Place → Reader Term) → Reader Term
-neg_in inner all = neg_by inner all (takes marks.Not all)
-
--- conj.
-unfoldable pub conj_in : (Place → Reader Term) → Reader Term
-conj_in inner = chain_in (only marks.And) plain and_node (neg_in inner)
-
--- expr.
-unfoldable pub expr_in : (Place → Reader Term) → Reader Term
-expr_in inner = chain_in (only marks.Or) plain or_node (conj_in inner)
-
--- What each place asks for.
-abbrev pub level_in : (Place → Reader Term) → Place → Reader Term
-level_in inner expr = expr_in inner
-level_in inner neg = neg_in inner
-level_in inner unary = unary_in inner
-level_in inner column = column_in
-
--- What may stand where so many levels may still be opened.
-unfoldable pub inside_in : ℕ → Place → Reader Term
-inside_in zero place all = None
-inside_in (suc levels) place all = level_in (inside_in levels) place all
-
--- expr, where no level is open.
-abbrev pub expression_in : Reader Term
-expression_in = expr_in (inside_in most_levels)

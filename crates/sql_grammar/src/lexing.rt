@@ -64,7 +64,7 @@ const SYMBOLS: [(&str, Mark); 15] = [
 ];
 
 /// What the tokens of a text are to the grammar.
-pub(crate) fn terminals_of(
+pub fn terminals_of(
     alloc: Global,
     text: &str,
     tokens: &[Token],
@@ -105,7 +105,7 @@ fn word_terminal(alloc: Global, word: &str) -> Result<Terminal, AllocError>
 }
 
 /// What a word stands for, if it is reserved.
-pub(crate) fn mark_of_word(word: &str) -> Option<Mark>
+pub fn mark_of_word(word: &str) -> Option<Mark>
     ensures exact { result ≡ mark_of_word word.now }
 {
     reserved_entry(&RESERVED, word)

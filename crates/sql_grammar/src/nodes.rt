@@ -7,7 +7,7 @@ use sqlite_items::{Boxed, Items};
 use std::alloc::{AllocError, Global};
 
 /// The sum of a term and what follows it.
-pub(crate) fn sum_node(
+pub fn sum_node(
     alloc: Global,
     first: Term,
     others: Items<Addend>,
@@ -27,7 +27,7 @@ pub(crate) fn sum_node(
 }
 
 /// The product of a term and those that follow it.
-pub(crate) fn product_node(
+pub fn product_node(
     alloc: Global,
     first: Term,
     others: Items<Term>,
@@ -41,7 +41,7 @@ pub(crate) fn product_node(
 }
 
 /// A term and those that follow it, joined by AND.
-pub(crate) fn and_node(alloc: Global, first: Term, others: Items<Term>) -> Result<Term, AllocError>
+pub fn and_node(alloc: Global, first: Term, others: Items<Term>) -> Result<Term, AllocError>
     ensures ok { IfOk result (λ t. t ≡ and_node first others) }
 {
     if others.is_empty() {
@@ -51,7 +51,7 @@ pub(crate) fn and_node(alloc: Global, first: Term, others: Items<Term>) -> Resul
 }
 
 /// A term and those that follow it, joined by OR.
-pub(crate) fn or_node(alloc: Global, first: Term, others: Items<Term>) -> Result<Term, AllocError>
+pub fn or_node(alloc: Global, first: Term, others: Items<Term>) -> Result<Term, AllocError>
     ensures ok { IfOk result (λ t. t ≡ or_node first others) }
 {
     if others.is_empty() {
@@ -61,7 +61,7 @@ pub(crate) fn or_node(alloc: Global, first: Term, others: Items<Term>) -> Result
 }
 
 /// A term between two others.
-pub(crate) fn between_node(
+pub fn between_node(
     alloc: Global,
     arg: Term,
     low: Term,
@@ -82,7 +82,7 @@ pub(crate) fn between_node(
 }
 
 /// A list that begins with one more.
-pub(crate) fn with_first<T: Drop>(
+pub fn with_first<T: Drop>(
     alloc: Global,
     first: T,
     others: Items<T>,

@@ -6,9 +6,12 @@ pub mod PrintPlaced
 pub mod PrintLeaves
 pub mod PrintExpressions
 pub mod PrintAgain
+pub mod PrintJoins
 pub mod PrintQueries
+pub mod PrintWrites
 pub mod PrintTokens
 pub mod PrintBytes
 pub mod PrintStatements
 pub mod PrintSpaced
 pub mod PrintLists
+pub mod PrintTables

@@ -9,13 +9,13 @@ use Rattle.sql_syntax.specs.declared.print_tightness.Tightness.{Tightness}
 use Rattle.sql_syntax.specs.declared.print_tightness.Tightness.TheVariants as tight
 use Rattle.sql_grammar.specs.Nodes.{addend}
 use Rattle.sql_grammar.specs.Languages.{Language, none, more, chain}
-use Rattle.sql_grammar.specs.Expression.{Place, expr, neg, unary, column, Column, Primary, numeral, text, truth, falsehood, null, reference, wanted, brackets, Unary, minus, primary, Product, Sum, Behind, nothing, compare, is_null, among, between, like, Test, Neg, Conj, Expr, Level}
-use Rattle.sql_syntax.specs.Printing.{made_by, looser, bracketed, each_behind, joined_by, addends_printed, denial_printed, mark_of, kind_word, reference_printed}
+use Rattle.sql_grammar.specs.Expression.{Place, expr, neg, unary, column, argument, Column, Primary, numeral, text, truth, falsehood, null, reference, wanted, aggregate, brackets, Unary, minus, primary, Product, Sum, Behind, nothing, compare, any_of, is_null, among, between, like, Test, Neg, Conj, Expr, rows, each, Level}
+use Rattle.sql_syntax.specs.Printing.{made_by, looser, bracketed, each_behind, joined_by, addends_printed, denial_printed, mark_of, kind_word, call_word, reference_printed}
 use Rattle.sql_syntax.specs.PrintingTerm.{printed, at_places, member_printed}
-use Rattle.sql_syntax.proofs.PrintTerms.{all_at_places, number_printed, text_printed, bool_printed, null_printed, column_printed, wanted_printed, or_printed, and_printed, not_printed, compare_printed, is_null_printed, among_printed, between_printed, like_printed, sum_term_printed, product_printed, minus_printed}
+use Rattle.sql_syntax.proofs.PrintTerms.{all_at_places, number_printed, text_printed, bool_printed, null_printed, column_printed, wanted_printed, or_printed, and_printed, not_printed, compare_printed, is_null_printed, among_printed, between_printed, like_printed, any_of_printed, count_all_printed, aggregate_printed, sum_term_printed, product_printed, minus_printed}
 use Rattle.sql_syntax.proofs.PrintParts.{Each, each_append, each_front, each_back, Written, only-self, behind_again, listed_again, addends_again}
-use Rattle.sql_syntax.proofs.PrintPlaced.{Prints, Improves, asks, as_it_stands, placed}
-use Rattle.sql_syntax.proofs.PrintLeaves.{Fitting, kind_again, comparison_again, column_again, denial_again}
+use Rattle.sql_syntax.proofs.PrintPlaced.{Prints, Again, Improves, as_it_stands, placed}
+use Rattle.sql_syntax.proofs.PrintLeaves.{Fitting, kind_again, call_again, comparison_again, column_again, denial_again}
 
 -- What is looser than a rule is looser than those that are tighter.
 looser_still : (r : Tightness) → (looser r tight.Unary ≡ true → looser r tight.Primary ≡ true) × (looser r tight.Product ≡ true → looser r tight.Unary ≡ true)
@@ -50,6 +50,11 @@ module _ (Fits : Terminal → Type 0) (fitting : Fitting Fits) (Inner : Place �
       let bare = subst (Written Fits (Inner column) (term.Column r)) (ap (λ g. g tight.Primary) (column_printed r)) again in
       as_it_stands tight.Primary t tight.Primary (terminal.Word (kind_word k) ∷ bracketed (reference_printed r)) (wanted_printed k r) refl (wanted (kind_again k w e) bare.spells)
       (fitting.kind k, (fitting.mark marks.Open, each_append Fits (reference_printed r) (terminal.Mark marks.Close ∷ []) bare.fits (fitting.mark marks.Close, tt)))
+  primary_prints t a (aggregate {c} {a = b} e d) f =
+      let close = terminal.Mark marks.Close ∷ [] in
+      let arg = inner.again (argument c) t b d (each_front Fits b close f.1.1) in
+      as_it_stands tight.Primary t tight.Primary (terminal.Word (call_word c) ∷ bracketed arg.shown) arg.is refl (aggregate (call_again c) arg.spells)
+      (fitting.call c, (fitting.mark marks.Open, each_append Fits arg.shown close arg.fits (fitting.mark marks.Close, tt)))
   primary_prints t a (brackets {a = b} d) f =
       let o = inner.opened t b d (each_front Fits b (terminal.Mark marks.Close ∷ []) f.1) in
       record { rule = o.rule; bare = o.bare; is = o.is; spells = o.spells; inside = λ h. o.inside; fits = o.fits }
@@ -95,6 +100,16 @@ module _ (Fits : Terminal → Type 0) (fitting : Fitting Fits) (Inner : Place �
       as_it_stands tight.Neg u tight.Neg (printed t tight.Sum ++ terminal.Mark (mark_of op) ∷ printed v tight.Sum) (compare_printed op t v) refl
       (Neg.test (Test.test left.spells (compare (comparison_again op) right.spells)))
       (each_append Fits (printed t tight.Sum) (terminal.Mark (mark_of op) ∷ printed v tight.Sum) left.fits (fitting.mark (mark_of op), right.fits))
+  behind_prints t u a b s f (any_of {r} {a = c} d) g =
+      let left = sum_again t a s f in
+      let close = terminal.Mark marks.Close ∷ [] in
+      let again = inner.again column (term.Column r) c d (each_front Fits c close g.1.1.1) in
+      let named = subst (Written Fits (Inner column) (term.Column r)) (ap (λ g. g tight.Primary) (column_printed r)) again in
+      let end = terminal.Mark marks.Equal ∷ terminal.Mark marks.Any ∷ bracketed (reference_printed r) in
+      as_it_stands tight.Neg u tight.Neg (printed t tight.Sum ++ end) (any_of_printed t r) refl
+      (Neg.test (Test.test left.spells (any_of named.spells)))
+      (each_append Fits (printed t tight.Sum) end left.fits
+      (fitting.mark marks.Equal, (fitting.mark marks.Any, (fitting.mark marks.Open, each_append Fits (reference_printed r) close named.fits (fitting.mark marks.Close, tt)))))
   behind_prints t u a b s f (is_null {negated} {n} d) g =
       let left = sum_again t a s f in
       let denial = denial_again Fits fitting negated n d in
@@ -169,8 +184,12 @@ module _ (Fits : Terminal → Type 0) (fitting : Fitting Fits) (Inner : Place �
   expr_again t a d f = placed Fits fitting.mark Inner tight.Expr t (expr_prints t a d f)
 
   -- What stands at a place of one more level.
-  pub level_again : (p : Place) (t : Term) (a : List Terminal) → Level Inner p t a → Each Fits a → Written Fits (Level Inner p) t (printed t (asks p))
+  pub level_again : (p : Place) (t : Term) (a : List Terminal) → Level Inner p t a → Each Fits a → Again Fits (Level Inner) p t
   level_again expr t a d f = expr_again t a d f
   level_again neg t a d f = neg_again t a d f
   level_again unary t a d f = unary_again t a d f
   level_again column t a d f = column_again Fits fitting t a d f
+  level_again (argument c) t a rows f = record { shown = terminal.Mark marks.Star ∷ []; is = count_all_printed; spells = rows; fits = (fitting.mark marks.Star, tt) }
+  level_again (argument c) t a (each {t = u} {a = b} d) f =
+      let again = expr_again u b d f in
+      record { shown = printed u tight.Expr; is = aggregate_printed c u; spells = each again.spells; fits = again.fits }

@@ -1,5 +1,6 @@
 -- What may stand at a level may stand where more levels may be opened.
 use Rattle.std.proofs.Common.{ℕ, zero, suc, List, []}
+use Rattle.sql_tree.specs.declared.agg_call.AggCall.{AggCall}
 use Rattle.sql_tree.specs.declared.term.Term.{Term}
 use Rattle.sql_grammar.specs.declared.mark.Mark.{Mark}
 use Rattle.sql_grammar.specs.declared.terminal.Terminal.{Terminal}
@@ -7,7 +8,7 @@ use Rattle.std.specs.Prelude.{Option}
 use Rattle.sql_syntax.specs.declared.print_tightness.Tightness.{Tightness}
 use Rattle.sql_syntax.specs.declared.print_tightness.Tightness.TheVariants as tight
 use Rattle.sql_grammar.specs.Languages.{Language, Members, none, more, Chain, chain}
-use Rattle.sql_grammar.specs.Expression.{Place, expr, neg, unary, column, Primary, numeral, text, truth, falsehood, null, reference, wanted, brackets, Unary, minus, primary, Product, Sum, Behind, nothing, compare, is_null, among, between, like, Test, Neg, Conj, Expr, Level, Inside}
+use Rattle.sql_grammar.specs.Expression.{Place, expr, neg, unary, column, argument, Primary, numeral, text, truth, falsehood, null, reference, wanted, aggregate, brackets, Unary, minus, primary, Product, Sum, Behind, nothing, compare, any_of, is_null, among, between, like, Test, Neg, Conj, Expr, Argument, rows, each, Level, Inside}
 use Rattle.sql_syntax.proofs.PrintPlaces.{Ruled}
 
 module _ {S A M : Type 0} {joins : Mark → Option S} {make : S → A → M} {Part Also : Language A} (raise : (x : A) (a : List Terminal) → Part x a → Also x a) where
@@ -27,6 +28,7 @@ module _ {Inner Outer : Place → Language Term} (raise : (p : Place) (t : Term)
   primary_raised t a null = null
   primary_raised t a (reference d) = reference d
   primary_raised t a (wanted {r} {a = b} e d) = wanted e (raise column _ b d)
+  primary_raised t a (aggregate {c} {a = b} e d) = aggregate e (raise (argument c) t b d)
   primary_raised t a (brackets {a = b} d) = brackets (raise expr t b d)
 
   unary_raised : (t : Term) (a : List Terminal) → Unary Inner t a → Unary Outer t a
@@ -42,6 +44,7 @@ module _ {Inner Outer : Place → Language Term} (raise : (p : Place) (t : Term)
   behind_raised : (t u : Term) (a : List Terminal) → Behind Inner t u a → Behind Outer t u a
   behind_raised t u a nothing = nothing
   behind_raised t u a (compare {u = v} {a = b} e d) = compare e (sum_raised v b d)
+  behind_raised t u a (any_of {a = b} d) = any_of (raise column _ b d)
   behind_raised t u a (is_null n) = is_null n
   behind_raised t u a (among {ts} {a = b} n d) = among n (chain_raised (raise expr) ts b d)
   behind_raised t u a (between {low} {high} {a = b} {b = c} n d e) = between n (sum_raised low b d) (sum_raised high c e)
@@ -60,11 +63,16 @@ module _ {Inner Outer : Place → Language Term} (raise : (p : Place) (t : Term)
   expr_raised : (t : Term) (a : List Terminal) → Expr Inner t a → Expr Outer t a
   expr_raised = chain_raised conj_raised
 
+  argument_raised : (c : AggCall) (t : Term) (a : List Terminal) → Argument Inner c t a → Argument Outer c t a
+  argument_raised c t a rows = rows
+  argument_raised c t a (each {t = u} {a = b} d) = each (expr_raised u b d)
+
   level_raised : (p : Place) (t : Term) (a : List Terminal) → Level Inner p t a → Level Outer p t a
   level_raised expr t a d = expr_raised t a d
   level_raised neg t a d = neg_raised t a d
   level_raised unary t a d = unary_raised t a d
   level_raised column t a d = d
+  level_raised (argument c) t a d = argument_raised c t a d
 
   rule_raised : (r : Tightness) (t : Term) (a : List Terminal) → Ruled r Inner t a → Ruled r Outer t a
   rule_raised tight.Expr t a d = expr_raised t a d

@@ -1,5 +1,6 @@
 -- What is printed at a place: by the rule that makes it, or in brackets.
 use Rattle.std.proofs.Common.{◌≡◌, List, [], ◌∷◌, Bool, true, false, refl, sym, subst, ap, if◌then◌else◌}
+use Rattle.sql_tree.specs.declared.agg_call.AggCall.{AggCall}
 use Rattle.sql_tree.specs.declared.term.Term.{Term}
 use Rattle.sql_grammar.specs.declared.mark.Mark.{Mark}
 use Rattle.sql_grammar.specs.declared.mark.Mark.TheVariants as marks
@@ -8,8 +9,8 @@ use Rattle.sql_grammar.specs.declared.terminal.Terminal.TheVariants as terminal
 use Rattle.sql_syntax.specs.declared.print_tightness.Tightness.{Tightness}
 use Rattle.sql_syntax.specs.declared.print_tightness.Tightness.TheVariants as tight
 use Rattle.sql_grammar.specs.Languages.{Language}
-use Rattle.sql_grammar.specs.Expression.{Place, expr, neg, unary, column, brackets}
-use Rattle.sql_syntax.specs.Printing.{looser, made_by, bracketed}
+use Rattle.sql_grammar.specs.Expression.{Place, expr, neg, unary, column, argument, brackets}
+use Rattle.sql_syntax.specs.Printing.{looser, made_by, bracketed, call_printed, call_word}
 use Rattle.sql_syntax.specs.PrintingTerm.{printed}
 use Rattle.sql_syntax.proofs.PrintPlaces.{Ruled, widen}
 use Rattle.sql_syntax.proofs.PrintParts.{Each, each_append, Written}
@@ -32,16 +33,24 @@ pub record Opened (Fits : Terminal → Type 0) (Inner : Place → Language Term)
   pub inside : Inner expr t bare
   pub fits : Each Fits bare
 
--- What is asked for one level down.
-abbrev pub asks : Place → Tightness
-asks expr = tight.Expr
-asks neg = tight.Neg
-asks unary = tight.Unary
-asks column = tight.Primary
+-- An aggregate is printed as a call, whose brackets hold an argument of it.
+pub record Argued (Fits : Terminal → Type 0) (Inner : Place → Language Term) (call : AggCall) (t : Term) : Type 0 where
+  pub shown : List Terminal
+  pub is : printed t ≡ made_by tight.Primary (call_printed (call_word call) shown)
+  pub spells : Inner (argument call) t shown
+  pub fits : Each Fits shown
+
+-- What is printed one level down is what the place asks for.
+abbrev pub Again : (Terminal → Type 0) → (Place → Language Term) → Place → Term → Type 0
+Again Fits Inner expr t = Written Fits (Inner expr) t (printed t tight.Expr)
+Again Fits Inner neg t = Written Fits (Inner neg) t (printed t tight.Neg)
+Again Fits Inner unary t = Written Fits (Inner unary) t (printed t tight.Unary)
+Again Fits Inner column t = Written Fits (Inner column) t (printed t tight.Primary)
+Again Fits Inner (argument call) t = Argued Fits Inner call t
 
 -- What stands one level down can be printed there.
 pub record Improves (Fits : Terminal → Type 0) (Inner : Place → Language Term) : Type 0 where
-  pub again : (p : Place) (t : Term) (a : List Terminal) → Inner p t a → Each Fits a → Written Fits (Inner p) t (printed t (asks p))
+  pub again : (p : Place) (t : Term) (a : List Terminal) → Inner p t a → Each Fits a → Again Fits Inner p t
   pub opened : (t : Term) (a : List Terminal) → Inner expr t a → Each Fits a → Opened Fits Inner t
 
 -- A term as it stands, by the rule that makes it.

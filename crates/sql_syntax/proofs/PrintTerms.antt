@@ -3,6 +3,8 @@ use Rattle.std.proofs.Common.{◌≡◌, ℕ, List, [], ◌∷◌, ◌++◌, map
 use Rattle.doc_values.specs.declared.kind.Kind.{Kind}
 use Rattle.doc_values.specs.declared.compare_op.CompareOp.{CompareOp}
 use Rattle.sql_tree.specs.declared.addend.Addend.{Addend}
+use Rattle.sql_tree.specs.declared.agg_call.AggCall.{AggCall}
+use Rattle.sql_tree.specs.declared.agg_call.AggCall.TheVariants as calls
 use Rattle.sql_tree.specs.declared.reference.Ref.{Ref}
 use Rattle.sql_tree.specs.declared.term.Term.{Term, the_lemmas}
 use Rattle.sql_tree.specs.declared.term.Term.TheVariants as term
@@ -10,7 +12,7 @@ use Rattle.sql_grammar.specs.declared.mark.Mark.TheVariants as marks
 use Rattle.sql_grammar.specs.declared.terminal.Terminal.TheVariants as terminal
 use Rattle.sql_syntax.specs.declared.print_tightness.Tightness.{Tightness}
 use Rattle.sql_syntax.specs.declared.print_tightness.Tightness.TheVariants as tight
-use Rattle.sql_syntax.specs.Printing.{made_by, bracketed, joined_by, all_at, reference_printed, call_printed, kind_word, mark_of, denial_printed, truth_mark, sum_printed}
+use Rattle.sql_syntax.specs.Printing.{made_by, bracketed, joined_by, all_at, reference_printed, call_printed, kind_word, call_word, mark_of, denial_printed, truth_mark, sum_printed}
 use Rattle.sql_syntax.specs.PrintingTerm.{printed, at_places, member_printed}
 
 pub all_at_places : (asked : Tightness) (ts : List Term) → all_at asked (map printed ts) ≡ at_places asked ts
@@ -58,6 +60,15 @@ between_printed t low high negated = search (rules, the_lemmas)
 
 pub like_printed : (t : Term) (pattern : List ℕ) (negated : Bool) → printed (term.Like t pattern negated) ≡ made_by tight.Neg (printed t tight.Sum ++ (denial_printed negated ++ terminal.Mark marks.Like ∷ terminal.Text pattern ∷ []))
 like_printed t pattern negated = search (rules, the_lemmas)
+
+pub any_of_printed : (t : Term) (r : Ref) → printed (term.AnyOf t r) ≡ made_by tight.Neg (printed t tight.Sum ++ terminal.Mark marks.Equal ∷ terminal.Mark marks.Any ∷ bracketed (reference_printed r))
+any_of_printed t r = search (rules, the_lemmas)
+
+pub count_all_printed : printed term.CountAll ≡ made_by tight.Primary (call_printed (call_word calls.Count) (terminal.Mark marks.Star ∷ []))
+count_all_printed = search (rules, the_lemmas)
+
+pub aggregate_printed : (call : AggCall) (t : Term) → printed (term.Aggregate call t) ≡ made_by tight.Primary (call_printed (call_word call) (printed t tight.Expr))
+aggregate_printed call t = search (rules, the_lemmas)
 
 pub sum_term_printed : (ms : List Addend) → printed (term.Sum ms) ≡ made_by tight.Sum (sum_printed (map member_printed ms))
 sum_term_printed ms = search (rules, the_lemmas)

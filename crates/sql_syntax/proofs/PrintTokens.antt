@@ -13,6 +13,8 @@ use Rattle.std.specs.List.{AllByRecursion}
 use Rattle.std.proofs.lemmas.Str.Parse.{IsNumeralModel, numerals_by_value}
 use Rattle.doc_values.specs.declared.kind.Kind.{Kind}
 use Rattle.doc_values.specs.declared.kind.Kind.TheVariants as kinds
+use Rattle.sql_tree.specs.declared.agg_call.AggCall.{AggCall}
+use Rattle.sql_tree.specs.declared.agg_call.AggCall.TheVariants as calls
 use Rattle.sql_tokens.specs.declared.token.Token.{Token}
 use Rattle.sql_tokens.specs.declared.token_sort.TokenSort.{TokenSort}
 use Rattle.sql_tokens.specs.declared.token_sort.TokenSort.TheVariants as sorts
@@ -25,7 +27,7 @@ use Rattle.sql_grammar.specs.declared.terminal.Terminal.{Terminal}
 use Rattle.sql_grammar.specs.declared.terminal.Terminal.TheVariants as terminal
 use Rattle.sql_grammar.specs.Terminals.{is_name}
 use Rattle.sql_grammar.specs.Words.{mark_of_word, word_terminal, terminal_of, terminals_of}
-use Rattle.sql_syntax.specs.Printing.{kind_word}
+use Rattle.sql_syntax.specs.Printing.{kind_word, call_word}
 use Rattle.sql_syntax.specs.PrintingText.{terminal_text}
 use Rattle.sql_syntax.proofs.PrintParts.{Each}
 use Rattle.sql_syntax.proofs.PrintLeaves.{Fitting}
@@ -155,6 +157,10 @@ kind_fits : (k : Kind) → (is_word (kind_word k) ≡ true) × (mark_of_word (ki
 kind_fits kinds.Int = (refl, refl)
 kind_fits _ = (refl, refl)
 
+call_fits : (c : AggCall) → (is_word (call_word c) ≡ true) × (mark_of_word (call_word c) ≡ None)
+call_fits calls.Count = (refl, refl)
+call_fits _ = (refl, refl)
+
 -- What print writes may be written where what was read may.
 pub writable_fitting : Fitting IsWritable
-writable_fitting = record { mark = λ m. tt; quoted = λ w short f. name_quoted w short f.0; kind = kind_fits }
+writable_fitting = record { mark = λ m. tt; quoted = λ w short f. name_quoted w short f.0; kind = kind_fits; call = call_fits; update = (refl, refl); delete = (refl, refl) }

@@ -1,6 +1,9 @@
 -- The terminals that are printed of a question, and of what an update writes.
 use Rattle.std.specs.Prelude.{ℕ, List, [], ◌∷◌, ◌++◌, map, Bool, Option, Some, None, if◌then◌else◌}
 use Rattle.sql_tree.specs.declared.item.Item.{Item}
+use Rattle.sql_tree.specs.declared.join.Join.{Join}
+use Rattle.sql_tree.specs.declared.join_way.JoinWay.{JoinWay}
+use Rattle.sql_tree.specs.declared.join_way.JoinWay.TheVariants as ways
 use Rattle.sql_tree.specs.declared.key.Key.{Key}
 use Rattle.sql_tree.specs.declared.reference.Ref.{Ref}
 use Rattle.sql_tree.specs.declared.select.Select.{Select}
@@ -37,9 +40,26 @@ abbrev pub behind_printed : Mark → Option Term → List Terminal
 behind_printed mark None = []
 behind_printed mark (Some t) = terminal.Mark mark ∷ expression_printed t
 
--- The tables, with commas between them.
-abbrev pub tables_printed : List Table → List Terminal
-tables_printed ts = joined_by marks.Comma (map table_printed ts)
+-- How a table is joined to those before it.
+abbrev pub way_printed : JoinWay → List Terminal
+way_printed ways.Comma = terminal.Mark marks.Comma ∷ []
+way_printed ways.Inner = terminal.Mark marks.Join ∷ []
+way_printed ways.Left = terminal.Mark marks.Left ∷ terminal.Mark marks.Join ∷ []
+
+-- A table behind the way in which it is joined, and then the condition, where there is one.
+abbrev pub joined_printed : Join → Table → List Terminal
+joined_printed j t = way_printed j.way ++ (table_printed t ++ behind_printed marks.On j.on)
+
+-- The tables after the first with their joins, one each.
+abbrev pub others_printed : List Join → List Table → List Terminal
+others_printed [] ts = []
+others_printed (j ∷ js) [] = []
+others_printed (j ∷ js) (t ∷ ts) = joined_printed j t ++ others_printed js ts
+
+-- The tables, as they are joined.
+abbrev pub tables_printed : List Table → List Join → List Terminal
+tables_printed [] js = []
+tables_printed (t ∷ ts) js = table_printed t ++ others_printed js ts
 
 -- What rows are grouped by.
 abbrev pub grouping_printed : List Ref → List Terminal
@@ -78,7 +98,7 @@ distinct_printed distinct = if distinct then terminal.Mark marks.Distinct ∷ []
 
 -- What stands behind SELECT.
 abbrev pub question_behind : Select → List Terminal
-question_behind s = distinct_printed s.distinct ++ (items_printed s ++ terminal.Mark marks.From ∷ (tables_printed s.tables ++ tail_printed s))
+question_behind s = distinct_printed s.distinct ++ (items_printed s ++ terminal.Mark marks.From ∷ (tables_printed s.tables s.joins ++ tail_printed s))
 
 -- A question.
 abbrev pub question_printed : Select → List Terminal

@@ -19,9 +19,7 @@ mod print_tightness;
 
 pub use print_laws::what_is_printed_spells_the_statement;
 pub use print_statement::print;
-pub use sql_grammar::{
-    Mark, ParseFault, Terminal, a_text_spells_one_statement, a_text_spells_what_is_read, parse,
-};
+pub use sql_grammar::{Mark, Terminal, a_text_spells_one_statement, a_text_spells_what_is_read};
 pub use sql_tree::{
     Addend, AggCall, Item, Join, JoinWay, Key, Ref, Select, Set, Statement, Table, Term,
 };

@@ -174,7 +174,7 @@ pub(crate) fn write_question(out: &mut Vec<u8>, question: &Select) -> Result<(),
     write_distinct(out, question.distinct)?;
     write_asked(out, question)?;
     write_mark(out, Mark::From)?;
-    write_tables(out, question.tables.as_slice())?;
+    write_tables(out, question.tables.as_slice(), question.joins.as_slice())?;
     write_tail(out, question)?;
     Ok(())
 }

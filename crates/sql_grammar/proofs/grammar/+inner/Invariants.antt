@@ -1,4 +1,0 @@
-use Rattle.sql_grammar.proofs.grammar.+inner.Given as goal
-
-abbrev pub decreases-inner : goal.decreases-inner
-decreases-inner l = l.levels

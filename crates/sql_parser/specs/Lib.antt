@@ -1,0 +1,3 @@
+pub mod Cursor
+pub mod Faults
+pub mod Nests

@@ -1,9 +1,0 @@
-use Rattle.std.proofs.Common.{◌≡◌, ◌++◌, map, take}
-use Rattle.sql_grammar.specs.declared.mark.Mark.TheVariants as marks
-use Rattle.sql_syntax.specs.Printing.{joined_by}
-use Rattle.sql_syntax.specs.PrintingQuery.{table_printed}
-use Rattle.sql_syntax.specs.PrintingText.{spaced}
-use Rattle.sql_syntax.proofs.print_tables.write_tables.Given as goal
-
-abbrev pub invariant-loop-i : goal.invariant-loop-i
-invariant-loop-i l = l.out.items ≡ l.fn.out.items ++ spaced (joined_by marks.Comma (map table_printed (take l.i l.tables)))
