@@ -19,9 +19,9 @@ def highest(pid):
         return 0
 
 
-def told(text):
+def told(text, name="versions_bench"):
     """What the program prints of a text, and its highest memory in bytes."""
-    program = subprocess.Popen([built("versions_bench")], stdin=subprocess.PIPE, stdout=subprocess.PIPE)
+    program = subprocess.Popen([built(name)], stdin=subprocess.PIPE, stdout=subprocess.PIPE)
     program.stdin.write(text.encode())
     program.stdin.close()
     peak = 0

@@ -33,7 +33,7 @@ fn check(rt: &impl Abort, alloc: Global, bytes: &[u8], wanted: &str) -> Result<(
 }
 
 // Bytes, and the lines of the script that they are, or the fault.
-const SCRIPTS: [(&[u8], &str); 32] = [
+const SCRIPTS: [(&[u8], &str); 34] = [
     // Blank lines and remarks say nothing, and count no place.
     (b"", ""),
     (b" ", ""),
@@ -49,7 +49,7 @@ const SCRIPTS: [(&[u8], &str); 32] = [
     (b"1  A  B \t", "1.1 [] \"A  B \\t\";"),
     (b"1", "1.1 [] \"\";"),
     (b"1 \t\n1 A", "1.1 [] \"\";1.2 [0] \"A\";"),
-    (b"1 after 1.1 SELECT", "1.1 [] \"after 1.1 SELECT\";"),
+    (b"1 after 1.1 SELECT", "1 after"),
     (b"1 # x", "1.1 [] \"# x\";"),
     (b"1 \xc3\xa4\xe2\x82\xac\xf0\x9d\x84\x9e", "1.1 [] \"ä€𝄞\";"),
     // A carriage return ends a number, and belongs to a text.
@@ -58,9 +58,15 @@ const SCRIPTS: [(&[u8], &str); 32] = [
     (b"1\r", "1.1 [] \"\\r\";"),
     (b"\r# x", "1 session"),
     (b"\r1 A", "1 session"),
-    // A session number is `1`, and ends at a blank.
+    // A session number is one of 1 to 64, and ends at a blank.
     (b"01 A", "1 session"),
-    (b"2 A", "1 session"),
+    (b"2 A\n1 B\n2 C", "2.1 [] \"A\";1.1 [] \"B\";2.2 [0] \"C\";"),
+    // Whom a line follows stands once in its list, in the order of the script.
+    (
+        b"1 A\n2 B\n1 after 2.1 after 1.1 after 2.1 C",
+        "1.1 [] \"A\";2.1 [] \"B\";1.2 [0, 1] \"C\";",
+    ),
+    (b"1 A\n2 after\r1.1 B", "2 after"),
     (b"65 A", "1 session"),
     (b"1A", "1 session"),
     (b"1# x", "1 session"),
@@ -73,7 +79,7 @@ const SCRIPTS: [(&[u8], &str); 32] = [
     (b"x \xff", "1 utf8"),
     (b"# \xff", "1 utf8"),
     (b"1 \xc3\n1 A", "1 utf8"),
-    (b"1 A\n2 A\n\xff", "2 session"),
+    (b"1 A\n2 A\n\xff", "3 utf8"),
 ];
 
 #[test]
@@ -87,11 +93,16 @@ fn scripts_are_read_by_the_rules(rt: HostRuntime) -> Result<(), Fail> {
 #[test]
 fn the_longest_scripts_are_read(rt: HostRuntime) -> Result<(), Fail> {
     let alloc = rt.alloc();
-    let mut bytes = vec![in alloc; b'\n'; MOST_BYTES]?;
+    let mut bytes = vec![in alloc; b'\n'; 65_536]?;
     check(&rt, alloc, bytes.as_slice(), "")?;
-    bytes.pop();
-    bytes.push(b'A')?;
-    check(&rt, alloc, bytes.as_slice(), "67108864 session")?;
+    bytes.push(b' ')?;
+    check(&rt, alloc, bytes.as_slice(), "65537 lines")?;
+    let mut bytes = vec![in alloc; b' '; 1_048_576]?;
+    check(&rt, alloc, bytes.as_slice(), "")?;
+    bytes.push(b'\xff')?;
+    check(&rt, alloc, bytes.as_slice(), "1 long")?;
+    let mut bytes = vec![in alloc; b'\n'; MOST_BYTES]?;
+    check(&rt, alloc, bytes.as_slice(), "65537 lines")?;
     bytes.push(b'\n')?;
     check(&rt, alloc, bytes.as_slice(), "0 size")
 }

@@ -1,5 +1,5 @@
 -- The first dirty attribute.
-use Rattle.std.proofs.Common.{◌≡◌, ℕ, ◌<◌, ◌≤◌, true, false, List, length, Option, Some, None, IfSome, IsSome, is_some, unwrap_or, option_map, slice_get, position, refl, sym, ap, subst, ◌∙◌, arith}
+use Rattle.std.proofs.Common.{◌≡◌, ℕ, ◌≤◌, true, false, List, length, Option, Some, None, IfSome, IsSome, is_some, unwrap_or, option_map, slice_get, refl, sym, ap, subst, ◌∙◌, arith}
 use Rattle.std.proofs.lemmas.Option.{slice_get_within, same_Some}
 use Rattle.attr_catalog.specs.Attribute.{Attribute}
 use Rattle.row_versions.proofs.Places.{position-at, position-none, none-position}

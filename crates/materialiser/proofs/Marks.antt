@@ -2,7 +2,6 @@
 use Rattle.std.proofs.Common.{◌≡◌, ℕ, zero, suc, ◌+◌, ◌<◌, ◌==◌, Bool, true, false, cond, List, [], ◌∷◌, ◌++◌, length, map, take, drop, set, Option, Some, None, IfSome, IsSome, slice_get, refl, sym, ap, subst, ◌∙◌, arith}
 use Rattle.std.proofs.lemmas.Bool.{eq-eqb}
 use Rattle.std.specs.Option.{option_map_or}
-use Rattle.doc_values.specs.declared.attr_id.AttrId.{AttrId}
 use Rattle.attr_catalog.specs.Attribute.{Attribute, advanced, cleared}
 use Rattle.attr_catalog.specs.Catalog.{changed, number}
 use Rattle.layout_store.specs.Changes.{stepped}

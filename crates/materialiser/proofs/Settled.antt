@@ -1,5 +1,5 @@
 -- How far settling has come: the attributes before a number are clean, and so many versions were moved.
-use Rattle.std.proofs.Common.{◌≡◌, ℕ, zero, suc, ◌+◌, ◌-◌, ◌*◌, ◌<◌, ◌≤◌, List, [], ◌∷◌, ◌++◌, length, map, take, drop, get_or, position, false, Option, Some, None, IfSome, is_some, option_map, slice_get, refl, sym, ap, subst, ◌∙◌, arith, append-nil, length-append, take-append-drop}
+use Rattle.std.proofs.Common.{◌≡◌, ℕ, suc, ◌+◌, ◌-◌, ◌*◌, ◌<◌, ◌≤◌, List, ◌++◌, length, map, take, drop, get_or, false, Option, Some, None, IfSome, is_some, option_map, slice_get, refl, sym, ap, subst, ◌∙◌, arith, append-nil, length-append, take-append-drop}
 use Rattle.std.specs.Prelude.{sum_by}
 use Rattle.std.specs.Option.{option_map_or}
 use Rattle.std.proofs.lemmas.List.{take_all, drop_all, length-map}
@@ -11,8 +11,8 @@ use Rattle.row_versions.proofs.Places.{get-within, get-map, position-none}
 use Rattle.layout_store.specs.Storage.{Storage}
 use Rattle.layout_store.specs.Shows.{ShowsTheSame}
 use Rattle.materialiser.specs.Dirty.{is_dirty, first_dirty, versions_left, moves_left}
-use Rattle.materialiser.specs.Steps.{IsRearranged, marked}
-use Rattle.materialiser.proofs.Marks.{cleared_before, cleared-next, untouched, changed-itself, changed-twice, changed-at, cleared-itself}
+use Rattle.materialiser.specs.Steps.{IsRearranged}
+use Rattle.materialiser.proofs.Marks.{cleared_before, cleared-next, untouched, changed-itself, cleared-itself}
 use Rattle.materialiser.proofs.Rearranged.{itself, and-then, shows-then}
 
 pub record IsSettledTo (k count : ℕ) (first now : Storage) : Type 0 where

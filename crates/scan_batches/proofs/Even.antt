@@ -1,10 +1,9 @@
 -- Columns that have as many values as there are rows.
-use Rattle.std.proofs.Common.{◌≡◌, ℕ, zero, suc, ◌<◌, Bool, true, false, List, [], ◌∷◌, length, get_or, replicate, Option, Some, slice_get, refl, sym, ap, ◌∙◌}
+use Rattle.std.proofs.Common.{◌≡◌, ℕ, zero, suc, ◌<◌, Bool, true, false, List, [], length, get_or, replicate, refl, sym, ap, ◌∙◌}
 use Rattle.std.proofs.lemmas.Option.{slice_get_within, get_or_from_slice_get, same_Some}
 use Rattle.std.proofs.lemmas.List.FromFn.{length-map-range_with_len}
 use Rattle.doc_values.specs.Doc.{Fields}
 use Rattle.row_columns.specs.Column.{Values}
-use Rattle.row_columns.specs.Contents.{Cells}
 use Rattle.row_columns.specs.Placed.{rows_of, row_at}
 use Rattle.scan_batches.specs.Filled.{AreOfLength, AreFilled, documents_for}
 

@@ -1,5 +1,5 @@
 -- What a scan is, what it wants of the rows that it has passed, and how a batch goes on.
-use Rattle.std.specs.Prelude.{◌≡◌, ℕ, ◌+◌, ◌<◌, ◌≤◌, min, nat_lt, nat_le, Bool, false, List, [], length, map, filter, Option, Some, None, IfSome, if◌then◌else◌}
+use Rattle.std.specs.Prelude.{◌≡◌, ℕ, ◌+◌, min, nat_lt, nat_le, Bool, false, List, [], length, map, filter, Option, IfSome, if◌then◌else◌}
 use Rattle.std.specs.Option.{option_map_or}
 use Rattle.doc_values.specs.Doc.{Fields}
 use Rattle.doc_values.specs.declared.col_ref.ColRef.{ColRef}

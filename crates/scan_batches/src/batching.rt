@@ -22,6 +22,13 @@ pub fn batch(layout: &Layout, scan: &mut Scan, limit: u32) -> Result<Step, Alloc
     if scan.at() < horizon {
         return Ok(Step::Gone(horizon));
     }
-    scan.begin_anew();
-    Err(AllocError)
+    if let Err(fault) = scan.pass(layout, limit) {
+        scan.begin_anew();
+        return Err(fault);
+    }
+    if scan.is_ended() {
+        Ok(Step::End)
+    } else {
+        Ok(Step::More)
+    }
 }

@@ -7,9 +7,12 @@
 #![tactic(auto)]
 
 mod batching;
+mod finding;
 mod read_rows;
+mod reading;
 mod scan;
 mod step;
+mod testing;
 
 pub use batching::batch;
 pub use scan::Scan;

@@ -1,8 +1,16 @@
-ghost use Rattle.std.specs.Prelude.{◌≡◌, [], IfOk, length, replicate};
-ghost use Rattle.scan_batches.specs.Filled.{AreOfLength};
+ghost use Rattle.std.specs.Prelude.{ℕ, List, ◌≡◌, ◌<◌, ◌+◌, ◌++◌, [], All, IfSome, IfOk, OnOk, OnErr, length, map, replicate, if◌then◌else◌};
+ghost use Rattle.doc_values.specs.declared.col_ref.ColRef.{ColRef as ColRefOf};
+ghost use Rattle.attr_catalog.specs.Paths.{IsLawful};
+ghost use Rattle.query_meaning.specs.Plans.{cells_under};
+ghost use Rattle.scan_batches.specs.Filled.{AreOfLength, put_behind};
+ghost use Rattle.scan_batches.specs.Reading.{document_in, path_for, values_for};
 
-use doc_values::Doc;
+use crate::finding::value_along;
+use attr_catalog::Path;
+use doc_values::{ColRef, Doc};
+use layout_store::Layout;
 use row_columns::{CellColumn, TableRows};
+use row_versions::VersionId;
 use std::alloc::{AllocError, Global};
 use std::marker::Model;
 
@@ -45,6 +53,50 @@ impl ReadRows {
         ensures exact { result ≡ length self.now.rows }
     {
         self.count
+    }
+
+    /// Where the rows have their memory from.
+    pub(crate) fn alloc(&self) -> Global {
+        *self.columns.allocator()
+    }
+
+    /// Puts the rows of versions behind the others: a value along each path, and the document where whole ones are asked
+    /// for. After want of memory no row is left.
+    pub(crate) fn append(
+        &mut self,
+        layout: &Layout,
+        refs: &[ColRef],
+        paths: &[Path],
+        versions: &[VersionId],
+    ) -> Result<(), AllocError>
+        requires width { self.old.width ≡ length refs.now }
+        requires paths { paths.now ≡ map (path_for layout.now.attributes) refs.now }
+        requires standing { All (λ v. v.0 < length layout.now.history.versions) versions.now }
+        ensures ok { OnOk result (self.new.rows ≡ self.old.rows ++ map (λ v. cells_under refs.now self.old.whole (document_in layout.now v)) versions.now) }
+        ensures width { self.new.width ≡ self.old.width }
+        ensures whole { self.new.whole ≡ self.old.whole }
+        ensures memory { OnErr result (self.new.rows ≡ []) }
+    {
+        let put = put_rows(
+            layout,
+            refs,
+            paths,
+            versions,
+            self.whole,
+            self.count,
+            &mut self.columns,
+            &mut self.docs,
+        );
+        match put {
+            Ok(count) => {
+                self.count = count;
+                Ok(())
+            }
+            Err(fault) => {
+                self.count = 0;
+                Err(fault)
+            }
+        }
     }
 
     /// Gives all rows up.
@@ -90,4 +142,127 @@ fn empty_all(alloc: Global, columns: &mut [CellColumn])
     for column in columns.iter_mut() {
         *column = CellColumn::new(alloc);
     }
+}
+
+// Puts rows behind others, and answers how many there are then. After want of memory no values are left.
+fn put_rows(
+    layout: &Layout,
+    refs: &[ColRef],
+    paths: &[Path],
+    versions: &[VersionId],
+    whole: bool,
+    count: u32,
+    columns: &mut [CellColumn],
+    docs: &mut Vec<Doc>,
+) -> Result<u32, AllocError>
+    requires width { length columns.old ≡ length refs.now }
+    requires paths { paths.now ≡ map (path_for layout.now.attributes) refs.now }
+    requires standing { All (λ v. v.0 < length layout.now.history.versions) versions.now }
+    ensures count { IfOk result (λ sum. sum ≡ count + length versions.now) }
+    ensures columns { OnOk result (columns.new ≡ put_behind columns.old (map (λ c. map (values_for layout.now c) versions.now) refs.now)) }
+    ensures docs { OnOk result (docs.new.items ≡ docs.old.items ++ (if whole then map (document_in layout.now) versions.now else [])) }
+    ensures even { OnErr result (AreOfLength 0 columns.new) }
+    ensures none { OnErr result (docs.new.items ≡ []) }
+    ensures long { length columns.new ≡ length columns.old }
+{
+    let alloc = *docs.allocator();
+    match try_put(layout, refs, paths, versions, whole, count, columns, docs) {
+        Ok(sum) => Ok(sum),
+        Err(fault) => {
+            empty_all(alloc, columns);
+            docs.truncate(0);
+            Err(fault)
+        }
+    }
+}
+
+// The same; want of memory may leave some values.
+fn try_put(
+    layout: &Layout,
+    refs: &[ColRef],
+    paths: &[Path],
+    versions: &[VersionId],
+    whole: bool,
+    count: u32,
+    columns: &mut [CellColumn],
+    docs: &mut Vec<Doc>,
+) -> Result<u32, AllocError>
+    requires width { length columns.old ≡ length refs.now }
+    requires paths { paths.now ≡ map (path_for layout.now.attributes) refs.now }
+    requires standing { All (λ v. v.0 < length layout.now.history.versions) versions.now }
+    ensures count { IfOk result (λ sum. sum ≡ count + length versions.now) }
+    ensures columns { OnOk result (columns.new ≡ put_behind columns.old (map (λ c. map (values_for layout.now c) versions.now) refs.now)) }
+    ensures docs { OnOk result (docs.new.items ≡ docs.old.items ++ (if whole then map (document_in layout.now) versions.now else [])) }
+    ensures long { length columns.new ≡ length columns.old }
+{
+    let Some(sum) = counted(count, versions.len()) else {
+        return Err(AllocError);
+    };
+    fill_all(layout, refs, paths, versions, columns)?;
+    put_documents(layout, whole, versions, docs)?;
+    Ok(sum)
+}
+
+// So many rows and more, unless that is more than 32 bits hold.
+fn counted(count: u32, more: usize) -> Option<u32>
+    ensures exact { IfSome result (λ sum. sum ≡ count + more) }
+{
+    count.checked_add(u32::try_from(more).ok()?)
+}
+
+// Puts the values of versions along each path behind those of its column.
+fn fill_all(
+    layout: &Layout,
+    refs: &[ColRef],
+    paths: &[Path],
+    versions: &[VersionId],
+    columns: &mut [CellColumn],
+) -> Result<(), AllocError>
+    requires width { length columns.old ≡ length refs.now }
+    requires paths { paths.now ≡ map (path_for layout.now.attributes) refs.now }
+    requires standing { All (λ v. v.0 < length layout.now.history.versions) versions.now }
+    ensures ok { OnOk result (columns.new ≡ put_behind columns.old (map (λ c. map (values_for layout.now c) versions.now) refs.now)) }
+{
+    for place in 0..paths.len() {
+        fill(layout, &paths[place], versions, &mut columns[place])?;
+    }
+    Ok(())
+}
+
+// Puts the values of versions along a path behind those of a column.
+fn fill(
+    layout: &Layout,
+    path: &Path,
+    versions: &[VersionId],
+    column: &mut CellColumn,
+) -> Result<(), AllocError>
+    requires lawful { IsLawful layout.now.attributes path.now }
+    requires standing { All (λ v. v.0 < length layout.now.history.versions) versions.now }
+    ensures ok { (c : ColRefOf) → path.now ≡ path_for layout.now.attributes c → OnOk result (column.new ≡ column.old ++ map (values_for layout.now c) versions.now) }
+{
+    column.reserve(versions.len())?;
+    for version in versions {
+        column.push(value_along(layout, *version, path))?;
+    }
+    Ok(())
+}
+
+// Puts the documents of versions behind others, where whole ones are asked for.
+fn put_documents(
+    layout: &Layout,
+    whole: bool,
+    versions: &[VersionId],
+    docs: &mut Vec<Doc>,
+) -> Result<(), AllocError>
+    requires standing { All (λ v. v.0 < length layout.now.history.versions) versions.now }
+    ensures ok { OnOk result (docs.new.items ≡ docs.old.items ++ (if whole then map (document_in layout.now) versions.now else [])) }
+{
+    if !whole {
+        return Ok(());
+    }
+    docs.reserve(versions.len())?;
+    for version in versions {
+        docs.push(layout.doc(*version)?)?;
+    }
+    Ok(())
 }

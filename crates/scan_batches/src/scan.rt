@@ -1,8 +1,9 @@
-ghost use Rattle.std.specs.Prelude.{◌≡◌, ◌≤◌, ◌==◌, [], IfOk, length};
+ghost use Rattle.std.specs.Prelude.{◌≡◌, ◌≤◌, ◌==◌, [], IfOk, OnOk, length};
 ghost use Rattle.row_versions.specs.History.{rows_of};
-ghost use Rattle.scan_batches.specs.Scans.{rows_wanted, begun_anew, CanBeTested};
+ghost use Rattle.scan_batches.specs.Scans.{rows_wanted, begun_anew, row_after, CanBeTested, ReadsTheSame};
 
 use crate::read_rows::ReadRows;
+use crate::reading::{is_enough, read_on};
 use doc_values::ColRef;
 use layout_store::Layout;
 use row_columns::TableRows;
@@ -92,6 +93,31 @@ impl Scan {
     {
         let Scan { rows, .. } = self;
         rows.into_rows()
+    }
+
+    /// Passes the next rows, so many at most, and reads what is wanted of them.
+    pub(crate) fn pass(&mut self, layout: &Layout, limit: u32) -> Result<(), AllocError>
+        ensures read { OnOk result (self.old.rows ≡ rows_wanted layout.now self.old → self.new.rows ≡ rows_wanted layout.now self.new) }
+        ensures passed { OnOk result (self.new.next_row ≡ row_after limit self.old self.new) }
+        ensures same { ReadsTheSame self.old self.new }
+    {
+        let to = self.next_row + limit.min(self.end_row - self.next_row);
+        let next = read_on(
+            layout,
+            self.at,
+            &self.refs,
+            &self.test,
+            self.most,
+            &mut self.rows,
+            self.next_row,
+            to,
+        )?;
+        if is_enough(self.most, self.rows.len()) {
+            self.next_row = self.end_row;
+        } else {
+            self.next_row = next;
+        }
+        Ok(())
     }
 
     /// Begins anew: no row is passed or read.

@@ -52,13 +52,13 @@ impl Survey {
         requires within { to ≤ rows_of layout.now.history.versions }
         requires room { self.old.rows + (to - from) ≤ 4294967295 }
         ensures ok { OnOk result (HasTaken layout.now now from to self.old self.new) }
-        ensures rows { OnOk result (self.new.rows ≡ self.old.rows + (to - from)) }
+        ensures rows { self.new.rows ≡ self.old.rows + (to - from) }
     {
+        self.rows += to - from;
         let alloc = *self.tallies.allocator();
         layout.catalog().keeps_the_rules();
         let versions = shown_versions(alloc, layout, now, from, to)?;
         reach(alloc, &mut self.tallies, layout.catalog().len() as usize)?;
-        self.rows += to - from;
         self.documents += versions.len() as u32;
         take_all(alloc, layout, &versions, &mut self.tallies)
     }

@@ -6,7 +6,8 @@ use Rattle.std.proofs.lemmas.List.{take-take}
 use Rattle.std.proofs.lemmas.List.Sums.{count_by_more_yes, count_by-le-length, sum_by-take-le}
 use Rattle.std.proofs.lemmas.Option.{slice_get_within, get_or_from_slice_get}
 use Rattle.script_reader.specs.Laws.{AreToldApart, ContainLinesAbove, FollowLinesAbove, HaveSmallNumbers}
-use Rattle.script_reader.specs.Script.{IsScript, is_said_by}
+use Rattle.script_reader.specs.Script.{IsScript}
+use Rattle.script_reader.specs.Sessions.{is_said_by}
 use Rattle.script_reader.specs.declared.line.Line.{Line}
 
 count_grows : (p : Line → Bool) (lines : List Line) (i j : ℕ) (l m : Line) → slice_get lines i ≡ Some l → slice_get lines j ≡ Some m → p l ≡ true → p m ≡ true → i < j
@@ -34,11 +35,11 @@ module _ (lines : List Line) (rules : IsScript lines) where
   numbers_small k l h =
       let session = rules.known k l h in
       let within = slice_get_within lines k l h in
-      let few : length lines ≤ 67108864 = rules.few in
+      let few : length lines ≤ 65536 = rules.few in
       (omega arith, omega (arith, rules.placed k l h, count_by-le-length (is_said_by l.session) (take (k + 1) lines), length-take (k + 1) lines))
 
   pub above_contained : ContainLinesAbove lines
-  above_contained k l j h contained = (((rules.following k l h).whom j).0 contained).stands.above
+  above_contained k l j h contained = (rules.following k l h).above j contained
 
   pub above : FollowLinesAbove lines
   above k l i j h at = above_contained k l j h (i, slice_get_within l.follows i j at, get_or_from_slice_get l.follows i j j at)

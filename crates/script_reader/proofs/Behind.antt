@@ -1,13 +1,16 @@
--- A line that has its place and follows its session is the one that its statement makes behind the lines above it, and the other way round.
+-- A line that has its place and follows whom it has to is the one that its statement makes behind the lines above it, and the other way round.
 use Rattle.std.proofs.Common.{◌≡◌, ℕ, zero, suc, ◌+◌, ◌<◌, ◌≤◌, Bool, true, false, ◌⊎◌, inl, inr, List, [], ◌∷◌, ◌++◌, length, take, Option, Some, None, arith, refl, ap, sym, ◌∙◌, subst, ⊎_elim}
-use Rattle.std.specs.Prelude.{count_by, option_to_list, slice_get, slice_index_or, if◌then◌else◌}
-use Rattle.std.specs.List.{Contains}
+use Rattle.std.specs.Prelude.{◌↔◌, count_by, option_to_list, slice_get, slice_index_or, if◌then◌else◌}
+use Rattle.std.specs.List.{All, Contains}
 use Rattle.std.proofs.lemmas.Bool.{cases_eq, eq-eqb, eqb-true, false≢true}
-use Rattle.std.proofs.lemmas.List.{length-take-le}
+use Rattle.std.proofs.lemmas.List.{length-take-le, take_all}
+use Rattle.std.proofs.lemmas.List.Elements.{Contains-append_left, Contains-append_right, Contains-append_cases}
 use Rattle.std.proofs.lemmas.List.Sums.{count_by_more_yes}
 use Rattle.std.proofs.lemmas.Option.{slice_get_within, get_or_from_slice_get, same_Some}
-use Rattle.script_reader.specs.Reader.{last_of, line_behind}
-use Rattle.script_reader.specs.Script.{is_said_by, HasPlace, StandsAbove, IsLastAbove, FollowsItsSession}
+use Rattle.script_reader.specs.Reader.{ascending, line_behind}
+use Rattle.script_reader.specs.Script.{HasPlace, StandsAbove, IsLastAbove, FollowsAbove, Follows}
+use Rattle.script_reader.specs.Sessions.{is_said_by, last_of}
+use Rattle.script_reader.proofs.Ascending.{in_ascending, ascending_has, ascending_rises, increasing_from_Rises, Rises-from_increasing, is_ascending}
 use Rattle.script_reader.proofs.Lasts.{last_of_push}
 use Rattle.script_reader.specs.declared.line.Line.{Line}
 
@@ -73,7 +76,6 @@ last_above lines session lower within = by (last_of session (take lower lines)) 
   by (Some upper) is = inl (upper, is)
 
 -- ---- whom a line follows
-
 only_in : (x y k : ℕ) → k < 1 → slice_index_or (x ∷ []) k y ≡ y → x ≡ y
 only_in x y zero l e = e
 only_in x y (suc k) l e = absurd (omega arith)
@@ -81,60 +83,94 @@ only_in x y (suc k) l e = absurd (omega arith)
 none_in : (y : ℕ) → Contains [] y → ⊥
 none_in y h = let l : h.0 < 0 = h.1 in omega (arith, l)
 
-module _ (lines : List Line) (at : ℕ) (line : Line) where
-  follows_found : (found : Option ℕ) → Tells lines line.session at found → line.follows ≡ option_to_list found → FollowsItsSession lines at line
-  follows_found None none is = record {
-    whom = λ upper. (λ h. absurd (none_in upper (subst (λ list. Contains list upper) is h)), λ h. absurd (none upper h.stands));
-    ascending = λ i j upper lower before at_i at_j. absurd (no_item i upper (sym (ap (λ list. slice_get list i) is) ∙ at_i));
-  }
-    where
-      no_item : (i x : ℕ) → slice_get {X = ℕ} [] i ≡ Some x → ⊥
-      no_item i x e = cc
-  follows_found (Some first) last is = record {
-    whom = λ upper. (
-      λ h. let h1 = subst (λ list. Contains list upper) is h in subst (λ u. IsLastAbove lines line.session u at) (only_in first upper h1.0 h1.1 h1.2) last,
-      λ h.
-          let same : first ≡ upper = omega (arith, h.last first last.stands, last.last upper h.stands) in
-          subst (λ list. Contains list upper) (sym is) (0, omega arith, same),
-    );
-    ascending = λ i j upper lower before at_i at_j.
-        let within : j < length (first ∷ []) = slice_get_within (first ∷ []) j lower (sym (ap (λ list. slice_get list j) is) ∙ at_j) in
-        absurd (omega (arith, within, before));
-  }
+-- What is found is the last line above.
+found_is_last : (lines : List Line) (session n : ℕ) (found : Option ℕ) → Tells lines session n found → (upper : ℕ) → Contains (option_to_list found) upper ↔ IsLastAbove lines session upper n
+found_is_last lines session n None none upper = (λ h. absurd (none_in upper h), λ h. absurd (none upper h.stands))
+found_is_last lines session n (Some first) last upper = (
+  λ h. subst (λ u. IsLastAbove lines session u n) (only_in first upper h.0 h.1 h.2) last,
+  λ h. let same : first ≡ upper = omega (arith, h.last first last.stands, last.last upper h.stands) in (0, omega arith, same),
+)
 
-  found_follows : (found : Option ℕ) → Tells lines line.session at found → FollowsItsSession lines at line → line.follows ≡ option_to_list found
-  found_follows found tells rules = by found tells line.follows refl where
-    no_more : (first second : ℕ) (more : List ℕ) → line.follows ≡ first ∷ second ∷ more → ⊥
-    no_more first second more is =
-        let one = (rules.whom first).0 (subst (λ list. Contains list first) (sym is) (0, omega arith, refl)) in
-        let two = (rules.whom second).0 (subst (λ list. Contains list second) (sym is) (1, omega arith, refl)) in
-        let order = rules.ascending 0 1 first second (omega arith) (ap (λ list. slice_get list 0) is) (ap (λ list. slice_get list 1) is) in
-        omega (arith, one.last second two.stands, order)
+last_is : (lines : List Line) (session n : ℕ) → n ≤ length lines → (upper : ℕ) → Contains (option_to_list (last_of session (take n lines))) upper ↔ IsLastAbove lines session upper n
+last_is lines session n within = found_is_last lines session n (last_of session (take n lines)) (tells_last lines session n within)
 
-    by : (found : Option ℕ) → Tells lines line.session at found → (list : List ℕ) → line.follows ≡ list → line.follows ≡ option_to_list found
-    by None none [] is = is
-    by None none (first ∷ more) is = absurd (none first ((rules.whom first).0 (subst (λ list. Contains list first) (sym is) (0, omega arith, refl))).stands)
-    by (Some upper) last [] is = absurd (none_in upper (subst (λ list. Contains list upper) is ((rules.whom upper).1 last)))
-    by (Some upper) last (first ∷ []) is =
-        let h = subst (λ list. Contains list upper) is ((rules.whom upper).1 last) in
-        is ∙ ap (λ u. u ∷ []) (only_in first upper h.0 h.1 h.2)
-    by (Some upper) last (first ∷ second ∷ more) is = absurd (no_more first second more is)
+module _ (lines : List Line) (at : ℕ) (line : Line) (stands : slice_get lines at ≡ Some line) where
+  within : at < length lines
+  within = slice_get_within lines at line stands
 
-  module _ (stands : slice_get lines at ≡ Some line) where
-    within : at < length lines
-    within = slice_get_within lines at line stands
+  itself : count_by (is_said_by line.session) (take (at + 1) lines) ≡ count_by (is_said_by line.session) (take at lines) + 1
+  itself = count_by_more_yes (is_said_by line.session) lines at line within (ap (is_said_by line.session) (get_or_from_slice_get lines at line line stands) ∙ eq-eqb line.session line.session refl)
 
-    itself : count_by (is_said_by line.session) (take (at + 1) lines) ≡ count_by (is_said_by line.session) (take at lines) + 1
-    itself = count_by_more_yes (is_said_by line.session) lines at line within (ap (is_said_by line.session) (get_or_from_slice_get lines at line line stands) ∙ eq-eqb line.session line.session refl)
+  long : length (take at lines) ≡ at
+  long = length-take-le at lines (omega (arith, within))
 
-    pub placed_behind : line ≡ line_behind (take at lines) line.session line.text → HasPlace lines at line
-    placed_behind is = ap (λ (l : Line). l.place) is ∙ sym itself
+  -- A line that a statement makes keeps the rules.
+  module _ (named : List ℕ) (is : line ≡ line_behind (take at lines) line.session named line.text) where
+    pub placed_behind : HasPlace lines at line
+    placed_behind = ap (λ (l : Line). l.place) is ∙ sym itself
 
-    pub follows_behind : line ≡ line_behind (take at lines) line.session line.text → FollowsItsSession lines at line
-    follows_behind is = follows_found (last_of line.session (take at lines)) (tells_last lines line.session at (omega (arith, within))) (ap (λ (l : Line). l.follows) is)
+    follows-is : line.follows ≡ ascending (named ++ option_to_list (last_of line.session (take at lines))) (length (take at lines))
+    follows-is = ap (λ (l : Line). l.follows) is
 
-    pub is_behind : HasPlace lines at line → FollowsItsSession lines at line → line ≡ line_behind (take at lines) line.session line.text
-    is_behind place follows =
-        let place-is : line.place ≡ count_by (is_said_by line.session) (take at lines) + 1 = place ∙ itself in
-        let follows-is : line.follows ≡ option_to_list (last_of line.session (take at lines)) = found_follows (last_of line.session (take at lines)) (tells_last lines line.session at (omega (arith, within))) follows in
-        λ i. record { session = line.session; place = place-is i; follows = follows-is i; text = line.text }
+    pub follows_behind : FollowsAbove lines at line
+    follows_behind =
+        let last : List ℕ = option_to_list (last_of line.session (take at lines)) in
+        let bound : ℕ = length (take at lines) in
+        record {
+          last = λ upper h.
+              let below : upper < bound = omega (arith, long, h.stands.above) in
+              subst (λ list. Contains list upper) (sym follows-is)
+              (ascending_has (named ++ last) bound upper below (Contains-append_right named last upper ((last_is lines line.session at (omega (arith, within)) upper).1 h)));
+          above = λ upper h.
+              let found = in_ascending (named ++ last) bound upper (subst (λ list. Contains list upper) follows-is h) in
+              omega (arith, found.0, long);
+          ascending = subst (λ (list : List ℕ). (k : ℕ) → k + 1 < length list → slice_index_or list k 0 < slice_index_or list (k + 1) 0) (sym follows-is)
+              (increasing_from_Rises 0 (ascending (named ++ last) bound) (ascending_rises (named ++ last) bound));
+        }
+
+-- ---- the line that a statement makes follows exactly those that it has to
+last_of_all : (before : List Line) (session upper : ℕ) → Contains (option_to_list (last_of session before)) upper ↔ IsLastAbove before session upper (length before)
+last_of_all before session upper =
+    let all : take (length before) before ≡ before = take_all (length before) before (omega arith) in
+    let last = last_is before session (length before) (omega arith) upper in
+    subst (λ ls. Contains (option_to_list (last_of session ls)) upper ↔ IsLastAbove before session upper (length before)) all last
+
+pub behind_follows : (before : List Line) (session : ℕ) (named text : List ℕ) → All (λ k. k < length before) named → Follows before named (line_behind before session named text)
+behind_follows before session named text above =
+    let last : List ℕ = option_to_list (last_of session before) in
+    let found = last_of_all before session in
+    λ upper. (
+      λ h. ⊎_elim
+          (λ in-named. inr in-named)
+          (λ in-last. inl ((found upper).0 in-last))
+          (Contains-append_cases named last upper (in_ascending (named ++ last) (length before) upper h).1),
+      λ h. ⊎_elim
+          (λ is. ascending_has (named ++ last) (length before) upper is.stands.above (Contains-append_right named last upper ((found upper).1 is)))
+          (λ (in-named : Contains named upper).
+          let same : slice_index_or named in-named.0 upper ≡ upper = in-named.2 in
+          let below : upper < length before = subst (λ n. n < length before) same (above in-named.0 upper in-named.1) in
+          ascending_has (named ++ last) (length before) upper below (Contains-append_left named last upper in-named))
+          h,
+    )
+
+-- A line with its place that follows exactly those that it has to, all above it and ascending, is the one that the statement makes.
+pub is_behind : (before : List Line) (line : Line) (named : List ℕ) → line.place ≡ count_by (is_said_by line.session) before + 1 → Follows before named line →
+    ((upper : ℕ) → Contains line.follows upper → upper < length before) → ((k : ℕ) → k + 1 < length line.follows → slice_index_or line.follows k 0 < slice_index_or line.follows (k + 1) 0) →
+    line ≡ line_behind before line.session named line.text
+is_behind before line named place follows above up =
+    let last : List ℕ = option_to_list (last_of line.session before) in
+    let found = last_of_all before line.session in
+    let follows-is : line.follows ≡ ascending (named ++ last) (length before) =
+    is_ascending line.follows (named ++ last) (length before) (Rises-from_increasing line.follows up)
+    (λ k h. (
+      above k h,
+      ⊎_elim
+          (λ is. Contains-append_right named last k ((found k).1 is))
+          (λ in-named. Contains-append_left named last k in-named)
+          ((follows k).0 h),
+    ))
+    (λ k h. (follows k).1 (⊎_elim
+    (λ in-named. inr in-named)
+    (λ in-last. inl ((found k).0 in-last))
+    (Contains-append_cases named last k h))) in
+    λ i. record { session = line.session; place = place i; follows = follows-is i; text = line.text }

@@ -5,12 +5,12 @@ use Rattle.std.specs.Str.{IsUtf8, IsCharBoundary}
 use Rattle.std.proofs.lemmas.Str.{IsCharBoundary-start, IsCharBoundary-after_ascii}
 use Rattle.std.proofs.lemmas.List.Sums.{prefix_len_passes, prefix_len_stops, prefix_len-le-length}
 use Rattle.std.proofs.lemmas.Bool.Decides.{nat_tests}
-use Rattle.script_reader.specs.Pieces.{is_gap, is_in_number}
+use Rattle.script_reader.specs.Pieces.{is_gap, is_in_word}
 
 gap_is_ascii : (c : ℕ) → is_gap c ≡ true → c < 128
 gap_is_ascii c h = grind (arith, nat_tests)
 
-blank_is_ascii : (c : ℕ) → is_in_number c ≡ false → c < 128
+blank_is_ascii : (c : ℕ) → is_in_word c ≡ false → c < 128
 blank_is_ascii c h = grind (arith, nat_tests)
 
 past_passing : (n : ℕ) (bs : List ℕ) → IsUtf8 bs → n ≡ prefix_len is_gap bs → IsCharBoundary bs n
@@ -24,9 +24,9 @@ past_passing (suc n) bs u e =
 pub IsCharBoundary-past_gap : (bs : List ℕ) → IsUtf8 bs → (n : ℕ) → n ≡ prefix_len is_gap bs → IsCharBoundary bs n
 IsCharBoundary-past_gap bs u n e = past_passing n bs u e
 
--- behind the bytes of a number
-pub IsCharBoundary-past_number : (bs : List ℕ) → (n : ℕ) → n ≡ prefix_len is_in_number bs → IsCharBoundary bs n
-IsCharBoundary-past_number bs n e = (
-  omega (arith, prefix_len-le-length is_in_number bs),
-  λ within above. absurd (omega (arith, blank_is_ascii (get_or bs n 0) (subst (λ k. is_in_number (get_or bs k 0) ≡ false) (sym e) (prefix_len_stops is_in_number bs 0 (omega arith))))),
+-- behind the bytes of a word
+pub IsCharBoundary-past_word : (bs : List ℕ) → (n : ℕ) → n ≡ prefix_len is_in_word bs → IsCharBoundary bs n
+IsCharBoundary-past_word bs n e = (
+  omega (arith, prefix_len-le-length is_in_word bs),
+  λ within above. absurd (omega (arith, blank_is_ascii (get_or bs n 0) (subst (λ k. is_in_word (get_or bs k 0) ≡ false) (sym e) (prefix_len_stops is_in_word bs 0 (omega arith))))),
 )

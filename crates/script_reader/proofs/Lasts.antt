@@ -1,136 +1,139 @@
--- The last line of a session, before and behind one more line.
-use Rattle.std.proofs.Common.{◌≡◌, ℕ, suc, ◌+◌, ◌-◌, ◌<◌, ◌≤◌, Bool, true, false, not, cond, List, [], ◌∷◌, ◌++◌, length, length-set, Option, Some, None, get_or, set, arith, refl, sym, ap, ◌∙◌, subst, ⊎_elim, get_or-set_same, get_or-set_other}
-use Rattle.std.specs.Prelude.{count_by, nat_lt, position, reverse, option_map, option_to_list, IfSome, unwrap_or, if◌then◌else◌}
-use Rattle.std.proofs.lemmas.Bool.{cases_eq, eq-eqb, ne_eqb, lt-ltb, ltb-true, ltb-false, false≢true}
-use Rattle.std.specs.List.{position_or_len}
-use Rattle.std.proofs.lemmas.List.{length_push, length-reverse, reverse-append}
-use Rattle.std.proofs.lemmas.List.Sorted.{IsPermutation-reverse, sum_by-IsPermutation}
-use Rattle.std.proofs.lemmas.List.Sums.{sum_by-cons, sum_by_push, count_by-le-length}
-use Rattle.script_reader.specs.Reader.{last_of}
-use Rattle.script_reader.specs.Script.{is_said_by}
-use Rattle.script_reader.specs.Draft.{last_line, TellsLast}
+-- The positions of the lines of a session, and the last of them, before and behind one more line.
+use Rattle.std.proofs.Common.{◌≡◌, ℕ, zero, suc, ◌+◌, ◌-◌, ◌<◌, ◌≤◌, Bool, true, false, cond, List, [], ◌∷◌, ◌++◌, length, length-set, Option, Some, None, get_or, set, arith, refl, sym, ap, ◌∙◌, subst, ⊎_elim, get_or-set_same, get_or-set_other, append-nil}
+use Rattle.std.specs.Prelude.{count_by, option_to_list, slice_get, if◌then◌else◌}
+use Rattle.std.specs.List.{All}
+use Rattle.std.proofs.lemmas.Bool.{cases_eq, eq-eqb, ne_eqb}
+use Rattle.std.proofs.lemmas.List.{length_push}
+use Rattle.std.proofs.lemmas.List.Sums.{sum_by-cons, count_by-le-length}
+use Rattle.std.proofs.lemmas.List.Elements.{All-nil, All-cons, All-append}
+use Rattle.std.proofs.lemmas.Option.{same_Some, slice_get_read, get_or_from_slice_get}
+use Rattle.script_reader.specs.Sessions.{IsSession, is_said_by, lines_from, lines_of, last_of, most_sessions}
+use Rattle.script_reader.specs.Draft.{TellsSessions}
 use Rattle.script_reader.specs.declared.line.Line.{Line}
-use Rattle.script_reader.specs.declared.last.Last.{Last}
 
-lt_suc : (n m : ℕ) → nat_lt (1 + n) (suc m) ≡ nat_lt n m
-lt_suc n m = by (nat_lt (1 + n) (suc m)) (nat_lt n m) refl refl where
-  by : (b c : Bool) → nat_lt (1 + n) (suc m) ≡ b → nat_lt n m ≡ c → nat_lt (1 + n) (suc m) ≡ nat_lt n m
-  by true true e f = e ∙ sym f
-  by true false e f = absurd (omega (arith, ltb-true _ _ e, ltb-false _ _ f))
-  by false true e f = absurd (omega (arith, ltb-false _ _ e, ltb-true _ _ f))
-  by false false e f = e ∙ sym f
+-- ---- one more line
+lines_from_push : (at s : ℕ) (lines : List Line) (line : Line) → lines_from at s (lines ++ line ∷ []) ≡ lines_from at s lines ++ (if is_said_by s line then (at + length lines) ∷ [] else [])
+lines_from_push at s [] line =
+    let here : at ≡ at + 0 = omega arith in
+    elim (is_said_by s line) as (λ b. (if b then at ∷ [] else []) ≡ [] ++ (if b then (at + 0) ∷ [] else [])) [ true ↦ ap (λ p. p ∷ []) here | false ↦ refl ]
+lines_from_push at s (x ∷ xs) line =
+    let rest : List ℕ = lines_from (at + 1) s xs in
+    let there : at + 1 + length xs ≡ at + suc (length xs) = omega arith in
+    let more = lines_from_push (at + 1) s xs line ∙ ap (λ p. rest ++ (if is_said_by s line then p ∷ [] else [])) there in
+    elim (is_said_by s x) as (λ b. (if b then at ∷ lines_from (at + 1) s (xs ++ line ∷ []) else lines_from (at + 1) s (xs ++ line ∷ []))
+    ≡ (if b then at ∷ rest else rest) ++ (if is_said_by s line then (at + suc (length xs)) ∷ [] else [])) [
+      | true ↦ ap (λ ps. at ∷ ps) more
+      | false ↦ more
+    ]
 
--- What is counted from the end of some lines, at one more line.
-counted_back : (n m len : ℕ) (own : Bool) → m ≡ len → option_map (λ back. suc len - suc back) (cond (nat_lt (cond (not own) (1 + n) 0) (suc m)) (Some (cond (not own) (1 + n) 0)) None)
-    ≡ (if own then Some len else option_map (λ back. len - suc back) (cond (nat_lt n m) (Some n) None))
-counted_back n m len true same = rw (lt-ltb 0 (suc m) (omega arith)) (ap Some (omega arith))
-counted_back n m len false same = rw (lt_suc n m) (by (nat_lt n m)) where
-  by : (b : Bool) → option_map (λ back. suc len - suc back) (cond b (Some (1 + n)) None) ≡ option_map (λ back. len - suc back) (cond b (Some n) None)
-  by true = ap Some (omega arith)
-  by false = refl
+pub lines_of_push_own : (s : ℕ) (lines : List Line) (line : Line) → is_said_by s line ≡ true → lines_of s (lines ++ line ∷ []) ≡ lines_of s lines ++ length lines ∷ []
+lines_of_push_own s lines line own =
+    let here : 0 + length lines ≡ length lines = omega arith in
+    lines_from_push 0 s lines line ∙ ap (λ b. lines_of s lines ++ (if b then (0 + length lines) ∷ [] else [])) own ∙ ap (λ p. lines_of s lines ++ p ∷ []) here
+
+pub lines_of_push_other : (s : ℕ) (lines : List Line) (line : Line) → is_said_by s line ≡ false → lines_of s (lines ++ line ∷ []) ≡ lines_of s lines
+lines_of_push_other s lines line other =
+    lines_from_push 0 s lines line ∙ ap (λ b. lines_of s lines ++ (if b then (0 + length lines) ∷ [] else [])) other ∙ append-nil (lines_of s lines)
+
+-- ---- how many, and where
+length-lines_from : (at s : ℕ) (lines : List Line) → length (lines_from at s lines) ≡ count_by (is_said_by s) lines
+length-lines_from at s [] = refl
+length-lines_from at s (x ∷ xs) =
+    rw (sum_by-cons (λ y. cond (is_said_by s y) 1 0) x xs)
+    (elim (is_said_by s x) as (λ b. length (if b then at ∷ lines_from (at + 1) s xs else lines_from (at + 1) s xs) ≡ cond b 1 0 + count_by (is_said_by s) xs) [
+      | true ↦ omega (arith, length-lines_from (at + 1) s xs)
+      | false ↦ omega (arith, length-lines_from (at + 1) s xs)
+    ])
+
+pub length-lines_of : (s : ℕ) (lines : List Line) → length (lines_of s lines) ≡ count_by (is_said_by s) lines
+length-lines_of s lines = length-lines_from 0 s lines
+
+pub lines_of_few : (s : ℕ) (lines : List Line) → length (lines_of s lines) ≤ length lines
+lines_of_few s lines = omega (arith, length-lines_of s lines, count_by-le-length (is_said_by s) lines)
+
+-- The positions are those of lines.
+positions_within : (at s : ℕ) (lines : List Line) (i k : ℕ) → slice_get (lines_from at s lines) i ≡ Some k → k < at + length lines
+positions_within at s [] i k e = absurd (cc)
+positions_within at s (x ∷ xs) i k e =
+    elim (is_said_by s x) as (λ b. slice_get (if b then at ∷ lines_from (at + 1) s xs else lines_from (at + 1) s xs) i ≡ Some k → k < at + suc (length xs)) [
+      | true ↦ own (λ j f. positions_within (at + 1) s xs j k f) i
+      | false ↦ λ f. omega (arith, positions_within (at + 1) s xs i k f)
+    ] e
+  where
+    own : ((j : ℕ) → slice_get (lines_from (at + 1) s xs) j ≡ Some k → k < at + 1 + length xs) → (i : ℕ) → slice_get (at ∷ lines_from (at + 1) s xs) i ≡ Some k → k < at + suc (length xs)
+    own rest zero f = let same : at ≡ k = same_Some at k f in omega (arith, same)
+    own rest (suc i) f = omega (arith, rest i f)
+
+pub line_within : (s : ℕ) (lines : List Line) (i k : ℕ) → slice_get (lines_of s lines) i ≡ Some k → k < length lines
+line_within s lines i k e = omega (arith, positions_within 0 s lines i k e)
+
+pub last_within : (s : ℕ) (lines : List Line) (k : ℕ) → last_of s lines ≡ Some k → k < length lines
+last_within s lines k e = line_within s lines (length (lines_of s lines) - 1) k e
+
+-- ---- the last one
+pub at_length : {A : Type 0} (before : List A) (x : A) (more : List A) → slice_get (before ++ x ∷ more) (length before) ≡ Some x
+at_length [] x more = refl
+at_length (y ∷ before) x more = at_length before x more
+
+last_push : (xs : List ℕ) (n : ℕ) → slice_get (xs ++ n ∷ []) (length (xs ++ n ∷ []) - 1) ≡ Some n
+last_push xs n =
+    let at : length (xs ++ n ∷ []) - 1 ≡ length xs = omega (arith, length_push xs n) in
+    ap (slice_get (xs ++ n ∷ [])) at ∙ at_length xs n []
 
 pub last_of_push : (s : ℕ) (lines : List Line) (line : Line) → last_of s (lines ++ line ∷ []) ≡ (if is_said_by s line then Some (length lines) else last_of s lines)
-last_of_push s lines line =
-    let more : length (lines ++ line ∷ []) ≡ suc (length lines) = omega (arith, length_push lines line) in
-    rw (reverse-append, more)
-    (counted_back (position_or_len (is_said_by s) (reverse lines)) (length (reverse lines)) (length lines) (is_said_by s line) (length-reverse lines))
+last_of_push s lines line = by (is_said_by s line) refl where
+  by : (own : Bool) → is_said_by s line ≡ own → last_of s (lines ++ line ∷ []) ≡ (if own then Some (length lines) else last_of s lines)
+  by true own = ap (λ ps. slice_get ps (length ps - 1)) (lines_of_push_own s lines line own) ∙ last_push (lines_of s lines) (length lines)
+  by false other = ap (λ ps. slice_get ps (length ps - 1)) (lines_of_push_other s lines line other)
 
-later : (n m : ℕ) → cond (nat_lt (1 + n) (suc m)) (Some (1 + n)) None ≡ None → cond (nat_lt n m) (Some n) None ≡ None
-later n m = rw (lt_suc n m) (by (nat_lt n m)) where
-  by : (b : Bool) → cond b (Some (1 + n)) None ≡ None → cond b (Some n) None ≡ None
-  by true found = absurd (cc)
-  by false none = refl
+-- ---- what is kept for each session
+pub TellsSessions-nil : (kept : List (List ℕ)) → length kept ≡ most_sessions → ((k : ℕ) → get_or kept k [] ≡ []) → TellsSessions kept []
+TellsSessions-nil kept all none = record { all = all; each = λ k l. none k }
 
-some_first : (b : Bool) → b ≡ true → cond {A = Option ℕ} b (Some 0) None ≡ None → ⊥
-some_first true e found = cc
-some_first false e found = false≢true e
-
--- Lines of which none is found hold none.
-none_counted : {X : Type 0} (p : X → Bool) (xs : List X) → position p xs ≡ None → count_by p xs ≡ 0
-none_counted p [] h = refl
-none_counted {X} p (x ∷ xs) h =
-    rw (sum_by-cons (λ y. cond (p y) 1 0) x xs)
-    (elim (p x) as (λ b. cond (nat_lt (cond (not b) (1 + position_or_len p xs) 0) (suc (length xs))) (Some (cond (not b) (1 + position_or_len p xs) 0)) None ≡ None → cond b 1 0 + count_by p xs ≡ 0) [
-      | true ↦ λ found. let inside : nat_lt 0 (suc (length xs)) ≡ true = lt-ltb 0 (suc (length xs)) (omega arith) in absurd (some_first (nat_lt 0 (suc (length xs))) inside found)
-      | false ↦ λ none. omega (arith, none_counted p xs (later (position_or_len p xs) (length xs) none))
-    ] h)
-
-unmapped : {A B : Type 0} (f : A → B) (o : Option A) → option_map f o ≡ None → o ≡ None
-unmapped f None h = refl
-unmapped f (Some x) h = absurd (cc)
-
-count_unless_found : (s : ℕ) (lines : List Line) → last_of s lines ≡ None → count_by (is_said_by s) lines ≡ 0
-count_unless_found s lines h =
-    let same : count_by (is_said_by s) (reverse lines) ≡ count_by (is_said_by s) lines = sum_by-IsPermutation _ lines (reverse lines) (IsPermutation-reverse lines) in
-    sym same ∙ none_counted (is_said_by s) (reverse lines) (unmapped _ _ h)
-
-pub last_of_below : (s : ℕ) (lines : List Line) (j : ℕ) → last_of s lines ≡ Some j → j < length lines
-last_of_below s lines j h =
-    below (nat_lt (position_or_len (is_said_by s) (reverse lines)) (length (reverse lines))) (position_or_len (is_said_by s) (reverse lines)) refl h
-  where
-    below : (b : Bool) (n : ℕ) → nat_lt n (length (reverse lines)) ≡ b → option_map (λ back. length lines - suc back) (cond b (Some n) None) ≡ Some j → j < length lines
-    below true n inside found = let at : length lines - suc n ≡ j = cc in omega (arith, at, ltb-true n (length (reverse lines)) inside, length-reverse lines)
-    below false n inside found = absurd (cc)
-
--- What the last line of a session says to its next line.
-module _ (session : ℕ) (lines : List Line) (last : Option Last) (tells : last ≡ last_line session lines) where
-  pub room_behind : length lines + 1 < 4294967296 → IfSome last (λ line. line.place + 1 < 4294967296)
-  room_behind room =
-      rw tells (elim (last_of session lines) as (λ o. IfSome (option_map (λ at. let line : Last = record { position = at; place = count_by (is_said_by session) lines } in line) o) (λ line. line.place + 1 < 4294967296)) [
-        | None ↦ tt
-        | Some at ↦ omega (arith, count_by-le-length (is_said_by session) lines)
-      ])
-
-  pub place_behind : unwrap_or (option_map (λ (line : Last). line.place) last) 0 + 1 ≡ count_by (is_said_by session) lines + 1
-  place_behind =
-      rw tells (elim (last_of session lines) as (λ o. last_of session lines ≡ o → unwrap_or (option_map (λ (line : Last). line.place) (option_map (λ at. let line : Last = record { position = at; place = count_by (is_said_by session) lines } in line) o)) 0 + 1 ≡ count_by (is_said_by session) lines + 1) [
-        | None ↦ λ e. omega (arith, count_unless_found session lines e)
-        | Some at ↦ λ e. refl
-      ] refl)
-
-  pub followed_behind : option_to_list (option_map (λ (line : Last). line.position) last) ≡ option_to_list (last_of session lines)
-  followed_behind =
-      rw tells (elim (last_of session lines) as (λ o. option_to_list (option_map (λ (line : Last). line.position) (option_map (λ at. let line : Last = record { position = at; place = count_by (is_said_by session) lines } in line) o)) ≡ option_to_list o) [
-        | None ↦ refl
-        | Some at ↦ refl
-      ])
-
-count_by_push : (s : ℕ) (lines : List Line) (line : Line) → count_by (is_said_by s) (lines ++ line ∷ []) ≡ count_by (is_said_by s) lines + cond (is_said_by s line) 1 0
-count_by_push s lines line = sum_by_push (λ y. cond (is_said_by s y) 1 0) lines line
-
-last_line_push_own : (s : ℕ) (lines : List Line) (line : Line) → is_said_by s line ≡ true → last_line s (lines ++ line ∷ []) ≡ Some (record { position = length lines; place = count_by (is_said_by s) lines + 1 })
-last_line_push_own s lines line own = rw (last_of_push s lines line, count_by_push s lines line, own) refl
-
-last_line_push_other : (s : ℕ) (lines : List Line) (line : Line) → is_said_by s line ≡ false → last_line s (lines ++ line ∷ []) ≡ last_line s lines
-last_line_push_other s lines line other =
-    let e : count_by (is_said_by s) lines + 0 ≡ count_by (is_said_by s) lines = omega arith in
-    rw (last_of_push s lines line, count_by_push s lines line, other, e) refl
-
-pub TellsLast_push : (kept : List (Option Last)) (lines : List Line) (line : Line) (k : ℕ) (position place : ℕ) → TellsLast kept lines → k < length kept → line.session ≡ k + 1
-    → position ≡ length lines → place ≡ count_by (is_said_by (k + 1)) lines + 1 → TellsLast (set kept k (Some (record { position = position; place = place }))) (lines ++ line ∷ [])
-TellsLast_push kept lines line k position place tells within session at counted =
-    let now : Option Last = Some (record { position = position; place = place }) in
-    λ j inside. ⊎_elim
-    (λ same.
-    let own : is_said_by (k + 1) line ≡ true = eq-eqb _ _ session in
-    let told : now ≡ Some (record { position = length lines; place = count_by (is_said_by (k + 1)) lines + 1 }) = λ i. Some (record { position = at i; place = counted i }) in
-    subst (λ i. get_or (set kept k now) i None ≡ last_line (i + 1) (lines ++ line ∷ [])) (sym same)
-    (get_or-set_same kept k now None within ∙ told ∙ sym (last_line_push_own (k + 1) lines line own)))
-    (λ other.
-    let others : is_said_by (j + 1) line ≡ false = ne_eqb _ _ (λ e. other (omega arith)) in
-    get_or-set_other kept k j now None other ∙ tells j (omega (arith, length-set kept k now)) ∙ sym (last_line_push_other (j + 1) lines line others))
-    (cases_eq j k)
+pub TellsSessions_push : (kept : List (List ℕ)) (lines : List Line) (line : Line) (k position : ℕ) → TellsSessions kept lines → k < most_sessions → line.session ≡ k + 1 → position ≡ length lines
+    → TellsSessions (set kept k (get_or kept k [] ++ position ∷ [])) (lines ++ line ∷ [])
+TellsSessions_push kept lines line k position tells known session at =
+    let new : List ℕ = get_or kept k [] ++ position ∷ [] in
+    let within : k < length kept = omega (arith, tells.all, known) in
+    record {
+      all = length-set kept k new ∙ tells.all;
+      each = λ j inside. ⊎_elim
+          (λ same.
+          let own : is_said_by (k + 1) line ≡ true = eq-eqb _ _ session in
+          let told : new ≡ lines_of (k + 1) (lines ++ line ∷ []) =
+          (λ i. tells.each k known i ++ at i ∷ []) ∙ sym (lines_of_push_own (k + 1) lines line own) in
+          subst (λ i. get_or (set kept k new) i [] ≡ lines_of (i + 1) (lines ++ line ∷ [])) (sym same) (get_or-set_same kept k new [] within ∙ told))
+          (λ other.
+          let others : is_said_by (j + 1) line ≡ false = ne_eqb _ _ (λ e. other (omega (arith, e, session))) in
+          get_or-set_other kept k j new [] other ∙ tells.each j inside ∙ sym (lines_of_push_other (j + 1) lines line others))
+          (cases_eq j k);
+    }
 
 -- What is kept of a session, found by its number less one.
-pub kept_at : (kept : List (Option Last)) (lines : List Line) (session : ℕ) → TellsLast kept lines → 0 < session → session ≤ length kept → get_or kept (session - 1) None ≡ last_line session lines
-kept_at kept lines session tells first known =
-    let e : session - 1 + 1 ≡ session = omega arith in
-    subst (λ s. get_or kept (session - 1) None ≡ last_line s lines) e (tells (session - 1) (omega arith))
+pub own_is : (kept : List (List ℕ)) (lines : List Line) (session : ℕ) (own : List ℕ) → TellsSessions kept lines → IsSession session → own ≡ get_or kept (session - 1) own → own ≡ lines_of session lines
+own_is kept lines session own tells known is =
+    let one : session - 1 + 1 ≡ session = omega (arith, known.0) in
+    let within : session - 1 < most_sessions = omega (arith, known.0, known.1) in
+    let there = slice_get_read kept (length kept) (session - 1) own refl (omega (arith, tells.all, within)) is in
+    sym (get_or_from_slice_get kept (session - 1) own [] there) ∙ tells.each (session - 1) within ∙ ap (λ s. lines_of s lines) one
 
--- The same as `TellsLast_push`, by the session's number.
-pub TellsLast_behind : (kept : List (Option Last)) (lines more : List Line) (line : Line) (position place : ℕ) → more ≡ lines ++ line ∷ [] → TellsLast kept lines → 0 < line.session → line.session ≤ length kept
-    → position ≡ length lines → place ≡ count_by (is_said_by line.session) lines + 1 → TellsLast (set kept (line.session - 1) (Some (record { position = position; place = place }))) more
-TellsLast_behind kept lines more line position place is tells first known at counted =
-    let e : line.session - 1 + 1 ≡ line.session = omega arith in
-    subst (TellsLast _) (sym is) (TellsLast_push kept lines line (line.session - 1) position place tells (omega arith) (sym e) at
-    (subst (λ s. place ≡ count_by (is_said_by s) lines + 1) (sym e) counted))
+-- The same as `TellsSessions_push`, by the session's number.
+pub TellsSessions_behind : (kept : List (List ℕ)) (lines more : List Line) (line : Line) (session position : ℕ) (own new : List ℕ) → TellsSessions kept lines → IsSession session → own ≡ get_or kept (session - 1) own
+    → new ≡ own ++ position ∷ [] → more ≡ lines ++ line ∷ [] → line.session ≡ session → position ≡ length lines → TellsSessions (set kept (session - 1) new) more
+TellsSessions_behind kept lines more line session position own new tells known is new-is more-is said at =
+    let one : session - 1 + 1 ≡ session = omega (arith, known.0) in
+    let within : session - 1 < most_sessions = omega (arith, known.0, known.1) in
+    let there = slice_get_read kept (length kept) (session - 1) own refl (omega (arith, tells.all, within)) is in
+    let new-kept : get_or kept (session - 1) [] ++ position ∷ [] ≡ new = ap (λ o. o ++ position ∷ []) (get_or_from_slice_get kept (session - 1) own [] there) ∙ sym new-is in
+    subst (λ ls. TellsSessions (set kept (session - 1) new) ls) (sym more-is)
+    (subst (λ n. TellsSessions (set kept (session - 1) n) (lines ++ line ∷ [])) new-kept
+    (TellsSessions_push kept lines line (session - 1) position tells within (said ∙ sym one) at))
+
+-- Whom the next line of a session follows stands above it.
+pub all_followed : (lines : List Line) (session n : ℕ) (named : List ℕ) (found : Option ℕ) → n ≡ length lines → All (λ k. k < length lines) named → found ≡ last_of session lines → All (λ k. k < n) (named ++ option_to_list found)
+all_followed lines session n named found long above is =
+    subst (λ m. All (λ k. k < m) (named ++ option_to_list found)) (sym long) (All-append (λ k. k < length lines) named (option_to_list found) above (last found is))
+  where
+    last : (found : Option ℕ) → found ≡ last_of session lines → All (λ k. k < length lines) (option_to_list found)
+    last None e = All-nil (λ k. k < length lines)
+    last (Some k) e = All-cons (λ k. k < length lines) k [] (last_within session lines k (sym e)) (All-nil (λ k. k < length lines))

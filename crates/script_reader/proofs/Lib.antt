@@ -1,7 +1,11 @@
 pub mod Cuts
 pub mod Saying
+pub mod Numbers
 pub mod Lasts
+pub mod Naming
+pub mod Ascending
 pub mod Behind
+pub mod Ends
 pub mod Progress
 pub mod Rules
 pub mod Apart

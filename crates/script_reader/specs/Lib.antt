@@ -1,7 +1,9 @@
-pub mod Draft
-pub mod Laws
+pub mod Sessions
+pub mod Words
 pub mod Pieces
-pub mod Reader
 pub mod Script
-pub mod Told
+pub mod Reader
 pub mod Why
+pub mod Laws
+pub mod Told
+pub mod Draft

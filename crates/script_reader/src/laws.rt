@@ -1,8 +1,9 @@
 ghost use Rattle.std.specs.Prelude.{◌≡◌, ◌↔◌, ℕ, ◌<◌, ◌≤◌, List, Ok, Err, Some, length};
 ghost use Rattle.script_reader.specs.Laws.{AreToldApart, ContainLinesAbove, FollowLinesAbove, HaveSmallNumbers};
-ghost use Rattle.script_reader.specs.Pieces.{IsSession, session_of};
+ghost use Rattle.script_reader.specs.Pieces.{session_of};
 ghost use Rattle.script_reader.specs.Reader.{script_of};
 ghost use Rattle.script_reader.specs.Script.{HasFault, IsScript, IsScriptOf, most_script_bytes};
+ghost use Rattle.script_reader.specs.Sessions.{IsSession};
 ghost use Rattle.script_reader.specs.declared.line.Line.{Line};
 ghost use Rattle.script_reader.specs.declared.script_fault.ScriptFault.{ScriptFault};
 ghost use Rattle.script_reader.specs.declared.why.Why.TheVariants.{Size};

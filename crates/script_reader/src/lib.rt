@@ -5,9 +5,12 @@
 #![tactic(auto)]
 
 mod draft;
-mod last;
 mod laws;
+mod limits;
 mod line;
+mod named;
+mod names;
+mod number;
 mod piece;
 mod positions;
 mod reading;
@@ -21,9 +24,10 @@ pub use laws::{
     bytes_are_one_script, followed_lines_stand_above, lines_are_told_apart,
     long_bytes_are_no_script, numbers_are_small, scripts_keep_the_rules, sessions_are_written,
 };
+pub use limits::{MOST_BYTES, MOST_LINE_BYTES, MOST_LINES, MOST_SESSIONS};
 pub use line::Line;
 pub use positions::Positions;
-pub use reading::{MOST_BYTES, read_script};
+pub use reading::read_script;
 pub use script::Script;
 pub use script_fault::ScriptFault;
 pub use script_read_fault::ScriptReadFault;

@@ -1,15 +1,29 @@
 ghost use Rattle.std.specs.Prelude.{◌≡◌};
 ghost use Rattle.std.specs.List.{list_all, prefix_len};
-ghost use Rattle.script_reader.specs.Pieces.{is_blank, is_gap, is_in_number, is_remark, past, said_alone, session_of, statement_in};
+ghost use Rattle.script_reader.specs.Pieces.{behind_word, first_word, is_blank, is_gap, is_in_word, is_remark, past, said_alone, said_short, statement_in};
 ghost use Rattle.script_reader.specs.Told.{told, said_by};
 
+use crate::limits::{MOST_LINE_BYTES, MOST_LINES};
+use crate::number::read_session;
 use crate::statement::Statement;
 use crate::why::Why;
 
-/// What a piece of a script says; nothing where it is blank or a remark.
+/// What the piece of a number says, but for the lines that it names; nothing where it is blank or a remark.
+pub(crate) fn read_piece(number: u32, piece: &[u8]) -> Result<Option<Statement<'_>>, Why>
+    ensures exact { told result ≡ said_alone number piece.now }
+{
+    if number > MOST_LINES {
+        return Err(Why::Lines);
+    }
+    if piece.len() > MOST_LINE_BYTES {
+        return Err(Why::Long);
+    }
+    read_short(piece)
+}
+
 #[tactic(auto, using(crate::proofs::Saying::said_bad, crate::proofs::Saying::said_nothing, crate::proofs::Saying::said_statement))]
-pub(crate) fn read_piece(piece: &[u8]) -> Result<Option<Statement<'_>>, Why>
-    ensures exact { told result ≡ said_alone piece.now }
+fn read_short(piece: &[u8]) -> Result<Option<Statement<'_>>, Why>
+    ensures exact { told result ≡ said_short piece.now }
 {
     let Ok(text) = str::from_utf8(piece) else {
         return Err(Why::Utf8);
@@ -17,7 +31,10 @@ pub(crate) fn read_piece(piece: &[u8]) -> Result<Option<Statement<'_>>, Why>
     if is_blank_line(text) || is_remark(text) {
         return Ok(None);
     }
-    read_statement(past_gap(text)).map(Some)
+    match read_statement(past_gap(text)) {
+        Ok(statement) => Ok(Some(statement)),
+        Err(why) => Err(why),
+    }
 }
 
 fn is_blank_line(text: &str) -> bool
@@ -32,24 +49,24 @@ fn is_remark(text: &str) -> bool
     past_gap(text).starts_with('#')
 }
 
-/// A session number and the text behind it.
+/// A session number, and what stands behind it.
 fn read_statement(line: &str) -> Result<Statement<'_>, Why>
     ensures exact { said_by result ≡ statement_in line.now }
 {
-    let (number, rest) = line.split_at(number_len(line));
-    match read_session(number) {
-        Some(session) => Ok(Statement {
-            session,
-            text: past_gap(rest),
-        }),
+    let (number, rest) = cut_word(line);
+    match read_session(number.as_bytes()) {
+        Some(session) => Ok(Statement { session, rest }),
         None => Err(Why::Session),
     }
 }
 
-fn read_session(number: &str) -> Option<u32>
-    ensures exact { result ≡ session_of number.now }
+/// The word that stands first, and what stands behind it past spaces and tabs.
+pub(crate) fn cut_word(text: &str) -> (&str, &str)
+    ensures word { result.0.now ≡ first_word text.now }
+    ensures behind { result.1.now ≡ behind_word text.now }
 {
-    if number == "1" { Some(1) } else { None }
+    let (word, rest) = text.split_at(word_len(text));
+    (word, past_gap(rest))
 }
 
 /// The text from its first byte on that is neither a space nor a tab.
@@ -67,10 +84,10 @@ fn gap_len(text: &str) -> usize
 }
 
 /// How many bytes stand before the first blank.
-fn number_len(line: &str) -> usize
-    ensures exact { result ≡ prefix_len is_in_number line.now }
+fn word_len(text: &str) -> usize
+    ensures exact { result ≡ prefix_len is_in_word text.now }
 {
-    line.bytes().take_while(|byte| !is_blank(*byte)).count()
+    text.bytes().take_while(|byte| !is_blank(*byte)).count()
 }
 
 fn is_gap(byte: u8) -> bool

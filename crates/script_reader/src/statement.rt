@@ -2,5 +2,6 @@
 #[derive(Clone, Copy)]
 pub(crate) struct Statement<'a> {
     pub(crate) session: u32,
-    pub(crate) text: &'a str,
+    /// The lines that it names, and its text.
+    pub(crate) rest: &'a str,
 }

@@ -1,10 +1,8 @@
 -- What all rows of a storage show, and the law.
-use Rattle.std.proofs.Common.{◌≡◌, ℕ, ◌+◌, ◌≤◌, Option, Some, None, option_map, slice_get, position, refl, sym, ap, ◌∙◌, arith}
+use Rattle.std.proofs.Common.{◌≡◌, ℕ, ◌+◌, ◌≤◌, Option, None, option_map, sym, ap, ◌∙◌, arith}
 use Rattle.doc_values.specs.Doc.{Fields}
-use Rattle.row_versions.specs.declared.version.Version.{Version}
 use Rattle.row_versions.specs.declared.version_id.VersionId.{VersionId}
-use Rattle.row_versions.specs.History.{rows_of, visible, newest, is_seen, version_at}
-use Rattle.row_versions.specs.Order.{IsLatest}
+use Rattle.row_versions.specs.History.{rows_of, is_seen, version_at}
 use Rattle.row_versions.proofs.Places.{position-none}
 use Rattle.row_versions.proofs.Rows.{row-below}
 use Rattle.row_versions.proofs.Seen.{foreign-unseen}
@@ -12,7 +10,7 @@ use Rattle.row_versions.proofs.Newest.{latest-show}
 use Rattle.layout_store.specs.Storage.{Storage}
 use Rattle.layout_store.specs.Documents.{document_at}
 use Rattle.layout_store.specs.Shows.{shown}
-use Rattle.shown_rows.specs.Rows.{rows_below, rows_at}
+use Rattle.shown_rows.specs.Rows.{rows_at}
 use Rattle.shown_rows.specs.Follow.{RowsFollow}
 use Rattle.shown_rows.proofs.Below.{are-shown, alike, empty, front, changed, loaded}
 

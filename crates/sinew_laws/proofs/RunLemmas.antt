@@ -47,7 +47,7 @@ module _ (lines : List Line) (rules : IsScript lines) (run : Run) (legal : IsLeg
   last_before : (last k : ℕ) (lower : Line) (before after : Reply) → IsLastAbove lines lower.session last k → slice_get lines k ≡ Some lower →
       slice_get run.answers last ≡ Some before → slice_get run.answers k ≡ Some after → before.at ≤ after.at
   last_before last k lower before after is at_k told told-after =
-      let followed = ((rules.following k lower at_k).whom last).1 is in
+      let followed = (rules.following k lower at_k).last last is in
       legal.later last k followed.0 lower before after at_k (slice_get_read lower.follows (length lower.follows) followed.0 last refl followed.1 (sym followed.2)) told told-after
 
   -- Two lines of one session, the lower one among the first so many lines.

@@ -1,4 +1,4 @@
-use Rattle.std.proofs.Common.{◌≡◌, ◌≤◌, true, false, length, Some, option_map, unwrap_or, slice_get, refl, sym, ap, ◌∙◌, rules}
+use Rattle.std.proofs.Common.{◌≡◌, true, false, length, Some, option_map, unwrap_or, slice_get, refl, sym, ap, ◌∙◌, rules}
 use Rattle.attr_catalog.specs.Attribute.{cleared}
 use Rattle.attr_catalog.specs.Catalog.{changed}
 use Rattle.materialiser.specs.Dirty.{is_dirty}

@@ -1,4 +1,4 @@
-use Rattle.std.proofs.Common.{◌≡◌, true, Some, option_map, sym, ap, ◌∙◌, arith}
+use Rattle.std.proofs.Common.{Some, option_map, sym, ap, ◌∙◌, arith}
 use Rattle.attr_catalog.specs.Catalog.{number}
 use Rattle.materialiser.proofs.First.{first-none, first-found}
 use Rattle.materialiser.proofs.stepping.first_from.Goals as goal

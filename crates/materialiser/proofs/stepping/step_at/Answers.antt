@@ -1,4 +1,4 @@
-use Rattle.std.proofs.Common.{◌≡◌, ◌<◌, length, Some, option_map, unwrap_or, slice_get, sym, ap, ◌∙◌, arith, rules}
+use Rattle.std.proofs.Common.{◌≡◌, length, Some, option_map, unwrap_or, slice_get, sym, ap, ◌∙◌, arith}
 use Rattle.attr_catalog.specs.Attribute.{Attribute}
 use Rattle.materialiser.proofs.First.{marked-at, within, dirty-so, first-so, if-there}
 use Rattle.materialiser.proofs.stepping.step_at.Goals as goal
