@@ -1,6 +1,7 @@
 pub mod Marks
 pub mod Reading
 pub mod Chains
+pub mod Keywords
 pub mod Openings
 pub mod Names
 pub mod Primaries
