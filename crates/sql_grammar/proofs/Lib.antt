@@ -7,8 +7,11 @@ pub mod Names
 pub mod Primaries
 pub mod Tests
 pub mod Levels
+pub mod Clauses
+pub mod TablesRead
 pub mod Queries
 pub mod Questions
+pub mod Writes
 pub mod Runs
 pub mod LoadTexts
 pub mod Texts
