@@ -60,7 +60,7 @@ def main():
              for name, size in (("100 bytes", 100), ("1 kB", 1000), ("10 kB", 10000), ("100 kB", 100000), ("1 MB", 1000000))]
     cases += [("chain of 10,000 ORs", chain(10000)), ("IN list of 50,000 members", members(50000))]
     cases += [("64 levels", levels(64)), ("three tables", joins(2)), ("64 groupings", groups(64)), ("64 parts of a SET", update(64)), ("load of 1 MB", load(1000000))]
-    refused = [("1,000 joins, refused", joins(1000)), ("30,000 joins, refused", joins(30000)),
+    refused = [("1,000 joins, refused", joins(1000)), ("25,000 joins, refused", joins(25000)),
                ("50,000 groupings, refused", groups(50000)), ("40,000 parts of a SET, refused", update(40000))]
     expected = [1] * len(cases) + [0] * len(refused)
     cases += refused
