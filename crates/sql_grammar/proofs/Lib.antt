@@ -1,13 +1,17 @@
 pub mod Marks
 pub mod Reading
 pub mod Chains
+pub mod Keywords
 pub mod Openings
 pub mod Names
 pub mod Primaries
 pub mod Tests
 pub mod Levels
+pub mod Clauses
+pub mod TablesRead
 pub mod Queries
 pub mod Questions
+pub mod Writes
 pub mod Runs
 pub mod LoadTexts
 pub mod Texts

@@ -77,6 +77,7 @@ module _ (Inner : Place → Language Term) where
   primary-begins t front (e.reference (Column.column (e.bare {n} p))) = name-begins n front p
   primary-begins t front (e.reference (Column.column (e.qualified {w} {a} h p))) = at 0 (terminal.Word w) (terminal.Mark marks.Dot ∷ a) (omega arith)
   primary-begins t front (e.wanted {w} {a} h p) = at 0 (terminal.Word w) (terminal.Mark marks.Open ∷ (a ++ terminal.Mark marks.Close ∷ [])) (omega arith)
+  primary-begins t front (e.aggregate {w} {a} h p) = at 0 (terminal.Word w) (terminal.Mark marks.Open ∷ (a ++ terminal.Mark marks.Close ∷ [])) (omega arith)
   primary-begins t front (e.brackets {a} p) = at 0 (terminal.Mark marks.Open) (a ++ terminal.Mark marks.Close ∷ []) (omega arith)
 
   unary-begins : (t : Term) (front : List Terminal) → Unary Inner t front → Begins 1 front
@@ -89,7 +90,7 @@ module _ (Inner : Place → Language Term) where
   unary-starts : Starts 1 (Unary Inner)
   unary-starts = record { begins = unary-begins }
 
-  sum-starts : Starts 1 (Sum Inner)
+  pub sum-starts : Starts 1 (Sum Inner)
   sum-starts = chain-starts sign_of addend sum_node (Product Inner) 1 (chain-starts (only marks.Star) plain product_node (Unary Inner) 1 unary-starts)
 
   pub test-begins : (t : Term) (front : List Terminal) → Test Inner t front → Begins 1 front

@@ -1,6 +1,7 @@
 -- From primaries up to sums.
 use Rattle.std.proofs.Common.{◌≡◌, ℕ, ◌<◌, List, [], ◌∷◌, ◌++◌, Bool, true, false, Option, Some, None, refl, subst, ap, ◌∙◌, arith, append_assoc}
 use Rattle.doc_values.specs.declared.kind.Kind.{Kind}
+use Rattle.sql_tree.specs.declared.agg_call.AggCall.{AggCall}
 use Rattle.sql_tree.specs.declared.reference.Ref.{Ref}
 use Rattle.sql_tree.specs.declared.term.Term.{Term}
 use Rattle.sql_tree.specs.declared.term.Term.TheVariants as term
@@ -8,16 +9,17 @@ use Rattle.sql_grammar.specs.declared.mark.Mark.{Mark}
 use Rattle.sql_grammar.specs.declared.mark.Mark.TheVariants as marks
 use Rattle.sql_grammar.specs.declared.terminal.Terminal.{Terminal}
 use Rattle.sql_grammar.specs.declared.terminal.Terminal.TheVariants as terminal
-use Rattle.sql_grammar.specs.Terminals.{kind_of, sign_of, only}
+use Rattle.sql_grammar.specs.Terminals.{kind_of, call_of, sign_of, only}
 use Rattle.sql_grammar.specs.Nodes.{addend, sum_node, product_node}
 use Rattle.sql_grammar.specs.Languages.{Language, plain}
 use Rattle.sql_grammar.specs.Reader.{Reader, takes, closed}
 use Rattle.sql_grammar.specs.Expression as e
 use Rattle.sql_grammar.specs.Expression.{Place, Reference, Column, Primary, Unary, Product, Sum}
-use Rattle.sql_grammar.specs.ExpressionReader.{reference_from, wanted_by, call_by, word_by, word_in, mark_in, primary_in, unary_by, unary_in, product_in, sum_in, unqualified}
+use Rattle.sql_grammar.specs.ExpressionReader.{reference_from, wanted_by, aggregate_by, call_by, word_by, word_in, mark_in, primary_in, unary_by, unary_in, product_in, sum_in, unqualified}
 use Rattle.sql_grammar.proofs.Marks.{Stops, mark_binds, only-binds, takes-none, takes-found, takes-at, takes-stop}
 use Rattle.sql_grammar.proofs.Reading.{Front, Reads, bind-found, fronted, closed-found, closed-at}
 use Rattle.sql_grammar.proofs.Chains.{chain-reads}
+use Rattle.sql_grammar.proofs.Keywords.{call-no-kind}
 use Rattle.sql_grammar.proofs.Openings.{begins-takes, primary-begins}
 use Rattle.sql_grammar.proofs.Names.{from-sound, from-bare, from-qualified}
 
@@ -27,6 +29,7 @@ tight e.expr = 3
 tight e.neg = 5
 tight e.unary = 8
 tight e.column = 8
+tight (e.argument c) = 3
 
 sign-binds : (mark : _) (s : Bool) → sign_of mark ≡ Some s → mark_binds mark ≡ 6
 sign-binds marks.Plus s h = refl
@@ -44,8 +47,19 @@ wanted-found k (term.Column r) x all rest h = let c = closed-found (term.Wanted 
 wanted-found k _ x all rest h = absurd (cc)
 
 module _ (inner : Place → Reader Term) (Inner : Place → Language Term) (nested : (p : Place) → Reads (tight p) (inner p) (Inner p)) where
-  call-by : (w : List ℕ) (o : Option Kind) (ts : List Terminal) (x : Term) (rest : List Terminal) → kind_of w ≡ o → call_by inner o ts ≡ Some (x, rest) → Front (Primary Inner) x (terminal.Word w ∷ terminal.Mark marks.Open ∷ ts) rest
-  call-by w None ts x rest k h = absurd (cc)
+  aggregate-by : (w : List ℕ) (o : Option AggCall) (ts : List Terminal) (x : Term) (rest : List Terminal) → call_of w ≡ o → aggregate_by inner o ts ≡ Some (x, rest) → Front (Primary Inner) x (terminal.Word w ∷ terminal.Mark marks.Open ∷ ts) rest
+  aggregate-by w None ts x rest k h = absurd (cc)
+  aggregate-by w (Some call) ts x rest k h =
+      let step = bind-found (inner (e.argument call) ts) (λ t all. closed t all) x rest h in
+      let f = (nested (e.argument call)).sound ts step.x step.after step.first in
+      let c = closed-found step.x x step.after rest step.second in
+      fronted (Primary Inner) step.x x (terminal.Word w ∷ terminal.Mark marks.Open ∷ ts) (terminal.Word w ∷ terminal.Mark marks.Open ∷ (f.front ++ terminal.Mark marks.Close ∷ [])) rest rest
+      (e.aggregate k f.spells)
+      (let e1 = f.split in let e2 = c.1 in let e3 : (f.front ++ terminal.Mark marks.Close ∷ []) ++ rest ≡ f.front ++ (terminal.Mark marks.Close ∷ rest) = append_assoc f.front (terminal.Mark marks.Close ∷ []) rest in cc)
+      (ap (λ t. Some (t, rest)) c.0)
+
+  call-by : (w : List ℕ) (o : Option Kind) (ts : List Terminal) (x : Term) (rest : List Terminal) → kind_of w ≡ o → call_by inner w o ts ≡ Some (x, rest) → Front (Primary Inner) x (terminal.Word w ∷ terminal.Mark marks.Open ∷ ts) rest
+  call-by w None ts x rest k h = aggregate-by w (call_of w) ts x rest refl h
   call-by w (Some kind) ts x rest k h =
       let step = bind-found (inner e.column ts) (wanted_by kind) x rest h in
       let f = (nested e.column).sound ts step.x step.after step.first in
@@ -97,6 +111,7 @@ module _ (inner : Place → Reader Term) (Inner : Place → Language Term) (nest
     close-stops e.neg = omega arith
     close-stops e.unary = omega arith
     close-stops e.column = omega arith
+    close-stops (e.argument c) = omega arith
 
   primary-complete : (x : Term) (front rest : List Terminal) → Primary Inner x front → Stops 8 rest → primary_in inner (front ++ rest) ≡ Some (x, rest)
   unfolding primary_in word_in mark_in
@@ -116,6 +131,11 @@ module _ (inner : Place → Reader Term) (Inner : Place → Language Term) (nest
       let opened = takes-at marks.Open ((a ++ terminal.Mark marks.Close ∷ []) ++ rest) in
       let found = inner-closed e.column (term.Column r) a rest p in
       let close = closed-at (term.Wanted k r) rest in rw (opened, h, found, close)
+  primary-complete x front rest (e.aggregate {w} {c} {a} h p) stop =
+      let opened = takes-at marks.Open ((a ++ terminal.Mark marks.Close ∷ []) ++ rest) in
+      let kind = call-no-kind w c h in
+      let found = inner-closed (e.argument c) x a rest p in
+      let close = closed-at x rest in rw (opened, kind, h, found, close)
   primary-complete x front rest (e.brackets {a} p) stop =
       let found = inner-closed e.expr x a rest p in
       let close = closed-at x rest in rw (found, close)

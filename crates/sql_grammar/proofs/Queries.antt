@@ -4,75 +4,27 @@ use Rattle.std.proofs.lemmas.Bool.{leb-true}
 use Rattle.std.proofs.lemmas.Bool.Decides.{nat_tests}
 use Rattle.sql_tree.specs.declared.item.Item.{Item}
 use Rattle.sql_tree.specs.declared.key.Key.{Key}
-use Rattle.sql_tree.specs.declared.table.Table.{Table}
+use Rattle.sql_tree.specs.declared.reference.Ref.{Ref}
 use Rattle.sql_grammar.specs.declared.mark.Mark.{Mark}
 use Rattle.sql_grammar.specs.declared.mark.Mark.TheVariants as marks
 use Rattle.sql_grammar.specs.declared.terminal.Terminal.{Terminal}
 use Rattle.sql_grammar.specs.declared.terminal.Terminal.TheVariants as terminal
-use Rattle.sql_grammar.specs.Terminals.{is_alias, only}
+use Rattle.sql_grammar.specs.Terminals.{only}
 use Rattle.sql_grammar.specs.Languages.{Language, Optional, absent, present, Listed, plain}
 use Rattle.sql_grammar.specs.Reader.{Reader, ◌>>=◌, takes, expect, optional_by, optional_in, listed_in}
 use Rattle.sql_grammar.specs.LevelReader.{expression_in}
+use Rattle.sql_grammar.specs.Expression.{Reference}
+use Rattle.sql_grammar.specs.ExpressionReader.{reference_in}
 use Rattle.sql_grammar.specs.Query as q
-use Rattle.sql_grammar.specs.Query.{Alias, AnItem, ATable, Direction, AKey, AtMost, Keys, Numeral, is_numeral, most_parts}
-use Rattle.sql_grammar.specs.QueryReader.{alias_in, bare_alias_in, named_by, named_in, item_in, table_in, descending_by, direction_by, direction_in, key_in, at_most_in, keys_in, numeral_in}
+use Rattle.sql_grammar.specs.Query.{AnItem, Direction, AKey, AtMost, Keys, Groups, Numeral, is_numeral, most_parts}
+use Rattle.sql_grammar.specs.QueryReader.{item_in, descending_by, direction_by, direction_in, key_in, at_most_in, keys_in, groups_in, numeral_in}
+use Rattle.sql_grammar.specs.TablesReader.{named_in}
 use Rattle.sql_grammar.proofs.Marks.{Stops, Stops-weaken, only-binds, takes-found, takes-at, takes-stop, takes-other}
 use Rattle.sql_grammar.proofs.Reading.{Front, Reads, bind-found, fronted, passed, refused, expect-found, expect-at}
 use Rattle.sql_grammar.proofs.Chains.{chain-reads}
+use Rattle.sql_grammar.proofs.Names.{reference-reads}
 use Rattle.sql_grammar.proofs.Levels.{expression-reads}
-
-alias-sound : (all : List Terminal) (x : Option (List ℕ)) (rest : List Terminal) → alias_in all ≡ Some (x, rest) → Front Alias x (terminal.Mark marks.As ∷ all) rest
-unfolding alias_in
-alias-sound [] x rest h = absurd (cc)
-alias-sound (terminal.Word w ∷ ts) x rest h = let p = passed (is_alias w) (Some (Some w, ts)) (x, rest) h in fronted Alias (Some w) x (terminal.Mark marks.As ∷ terminal.Word w ∷ ts) (terminal.Mark marks.As ∷ terminal.Word w ∷ []) ts rest (q.announced p.0) refl p.1
-alias-sound (terminal.Quoted w ∷ ts) x rest h = absurd (cc)
-alias-sound (terminal.Number w ∷ ts) x rest h = absurd (cc)
-alias-sound (terminal.Text w ∷ ts) x rest h = absurd (cc)
-alias-sound (terminal.Mark w ∷ ts) x rest h = absurd (cc)
-
-bare-sound : (all : List Terminal) (x : Option (List ℕ)) (rest : List Terminal) → bare_alias_in all ≡ Some (x, rest) → Front Alias x all rest
-unfolding bare_alias_in
-bare-sound [] x rest h = fronted Alias None x [] [] [] rest Alias.none refl h
-bare-sound (terminal.Word w ∷ ts) x rest h = let p = passed (is_alias w) (Some (Some w, ts)) (x, rest) h in fronted Alias (Some w) x (terminal.Word w ∷ ts) (terminal.Word w ∷ []) ts rest (q.bare p.0) refl p.1
-bare-sound (terminal.Quoted w ∷ ts) x rest h = fronted Alias None x (terminal.Quoted w ∷ ts) [] (terminal.Quoted w ∷ ts) rest Alias.none refl h
-bare-sound (terminal.Number w ∷ ts) x rest h = fronted Alias None x (terminal.Number w ∷ ts) [] (terminal.Number w ∷ ts) rest Alias.none refl h
-bare-sound (terminal.Text w ∷ ts) x rest h = fronted Alias None x (terminal.Text w ∷ ts) [] (terminal.Text w ∷ ts) rest Alias.none refl h
-bare-sound (terminal.Mark w ∷ ts) x rest h = fronted Alias None x (terminal.Mark w ∷ ts) [] (terminal.Mark w ∷ ts) rest Alias.none refl h
-
-named-by : (all : List Terminal) (o : Option (List Terminal)) (x : Option (List ℕ)) (rest : List Terminal) → takes marks.As all ≡ o → named_by all o ≡ Some (x, rest) → Front Alias x all rest
-named-by all None x rest o h = bare-sound all x rest h
-named-by all (Some ts) x rest o h = let f = alias-sound ts x rest h in record { front = f.front; spells = f.spells; split = takes-found marks.As all ts o ∙ f.split }
-
-named-sound : (all : List Terminal) (x : Option (List ℕ)) (rest : List Terminal) → named_in all ≡ Some (x, rest) → Front Alias x all rest
-unfolding named_in
-named-sound all x rest h = named-by all (takes marks.As all) x rest refl h
-
-bare-none : (rest : List Terminal) → Stops 2 rest → bare_alias_in rest ≡ Some (None, rest)
-unfolding bare_alias_in
-bare-none [] stop = refl
-bare-none (terminal.Word w ∷ ts) stop = absurd (omega arith)
-bare-none (terminal.Quoted w ∷ ts) stop = refl
-bare-none (terminal.Number w ∷ ts) stop = refl
-bare-none (terminal.Text w ∷ ts) stop = refl
-bare-none (terminal.Mark w ∷ ts) stop = refl
-
-word-no-as : (w : List ℕ) (rest : List Terminal) → takes marks.As (terminal.Word w ∷ rest) ≡ None
-unfolding takes
-word-no-as w rest = refl
-
-named-complete : (x : Option (List ℕ)) (front rest : List Terminal) → Alias x front → Stops 2 rest → named_in (front ++ rest) ≡ Some (x, rest)
-unfolding named_in alias_in bare_alias_in
-named-complete x front rest Alias.none stop = let e : takes marks.As rest ≡ None = takes-stop marks.As 2 rest (omega arith) stop in rw e (bare-none rest stop)
-named-complete x front rest (q.announced {w} h) stop = rw (takes-at marks.As (terminal.Word w ∷ rest), h)
-named-complete x front rest (q.bare {w} h) stop = rw (word-no-as w rest, h)
-
-named-reads : Reads 2 named_in Alias
-named-reads = record { sound = named-sound; complete = named-complete }
-
-alias-stops : (x : Option (List ℕ)) (front rest : List Terminal) → Alias x front → Stops 2 rest → Stops 3 (front ++ rest)
-alias-stops x front rest Alias.none stop = Stops-weaken 2 3 rest (omega arith) stop
-alias-stops x front rest (q.announced h) stop = omega arith
-alias-stops x front rest (q.bare h) stop = omega arith
+use Rattle.sql_grammar.proofs.TablesRead.{named-sound, named-complete, alias-stops}
 
 item-sound : (all : List Terminal) (x : Item) (rest : List Terminal) → item_in all ≡ Some (x, rest) → Front AnItem x all rest
 unfolding item_in
@@ -93,26 +45,6 @@ item-complete x front rest (q.item {t} {n} {a} {b} p r) stop =
 
 pub item-reads : Reads 2 item_in AnItem
 item-reads = record { sound = item-sound; complete = item-complete }
-
-table-sound : (all : List Terminal) (x : Table) (rest : List Terminal) → table_in all ≡ Some (x, rest) → Front ATable x all rest
-unfolding table_in
-table-sound [] x rest h = absurd (cc)
-table-sound (terminal.Quoted w ∷ ts) x rest h = absurd (cc)
-table-sound (terminal.Number w ∷ ts) x rest h = absurd (cc)
-table-sound (terminal.Text w ∷ ts) x rest h = absurd (cc)
-table-sound (terminal.Mark w ∷ ts) x rest h = absurd (cc)
-table-sound (terminal.Word w ∷ ts) x rest h =
-    let p = passed (is_alias w) (named_in ts >>= λ n rest. Some (record { collection = w; alias = n }, rest)) (x, rest) h in
-    let s = bind-found (named_in ts) (λ n rest. Some (record { collection = w; alias = n }, rest)) x rest p.1 in
-    let a = named-sound ts s.x s.after s.first in
-    fronted ATable (record { collection = w; alias = s.x }) x (terminal.Word w ∷ ts) (terminal.Word w ∷ a.front) s.after rest (q.table p.0 a.spells) (ap (λ r. terminal.Word w ∷ r) a.split) s.second
-
-table-complete : (x : Table) (front rest : List Terminal) → ATable x front → Stops 2 rest → table_in (front ++ rest) ≡ Some (x, rest)
-unfolding table_in
-table-complete x front rest (q.table {w} {n} {a} h p) stop = let e = named-complete n a rest p stop in rw (h, e)
-
-pub table-reads : Reads 2 table_in ATable
-table-reads = record { sound = table-sound; complete = table-complete }
 
 descending-by : (all : List Terminal) (o : Option (List Terminal)) (x : Bool) (rest : List Terminal) → takes marks.Desc all ≡ o → descending_by all o ≡ Some (x, rest) → Front Direction x all rest
 descending-by all None x rest o h = fronted Direction false x all [] all rest Direction.none refl h
@@ -196,6 +128,24 @@ keys-complete x front rest (q.keys {a} p) stop = let e1 = expect-at marks.By (a 
 
 pub keys-reads : Reads 1 keys_in Keys
 keys-reads = record { sound = keys-sound; complete = keys-complete }
+
+some-groups : Reads 1 (at_most_in (listed_in reference_in)) (AtMost (Listed Reference))
+some-groups = most-reads 1 (listed_in reference_in) (Listed Reference) (chain-reads (only marks.Comma) plain reference_in Reference 1 8 (only-binds marks.Comma) (omega arith) reference-reads (λ x xs. x ∷ xs))
+
+groups-sound : (all : List Terminal) (x : List Ref) (rest : List Terminal) → groups_in all ≡ Some (x, rest) → Front Groups x all rest
+unfolding groups_in
+groups-sound all x rest h =
+    let s = bind-found (expect marks.By all) (λ _ rest. at_most_in (listed_in reference_in) rest) x rest h in
+    let by = expect-found marks.By all s.x s.after s.first in
+    let f = some-groups.sound s.after x rest s.second in
+    record { front = terminal.Mark marks.By ∷ f.front; spells = q.groups f.spells; split = by ∙ ap (λ r. terminal.Mark marks.By ∷ r) f.split }
+
+groups-complete : (x : List Ref) (front rest : List Terminal) → Groups x front → Stops 1 rest → groups_in (front ++ rest) ≡ Some (x, rest)
+unfolding groups_in
+groups-complete x front rest (q.groups {a} p) stop = let e1 = expect-at marks.By (a ++ rest) in let e2 = some-groups.complete x a rest p stop in rw (e1, e2)
+
+pub groups-reads : Reads 1 groups_in Groups
+groups-reads = record { sound = groups-sound; complete = groups-complete }
 
 numeral-sound : (all : List Terminal) (x : ℕ) (rest : List Terminal) → numeral_in all ≡ Some (x, rest) → Front Numeral x all rest
 unfolding numeral_in

@@ -1,22 +1,26 @@
 -- What stands behind a sum, and tests.
 use Rattle.std.proofs.Common.{◌≡◌, ℕ, ◌<◌, List, [], ◌∷◌, ◌++◌, Bool, true, false, Option, Some, None, refl, sym, subst, ap, ◌∙◌, arith, append_assoc}
+use Rattle.std.proofs.lemmas.Bool.{false≢true}
 use Rattle.doc_values.specs.declared.compare_op.CompareOp.{CompareOp}
+use Rattle.doc_values.specs.declared.compare_op.CompareOp.TheVariants as ops
+use Rattle.sql_tree.specs.declared.reference.Ref.{Ref}
 use Rattle.sql_tree.specs.declared.term.Term.{Term}
 use Rattle.sql_tree.specs.declared.term.Term.TheVariants as term
 use Rattle.sql_grammar.specs.declared.mark.Mark.{Mark}
 use Rattle.sql_grammar.specs.declared.mark.Mark.TheVariants as marks
 use Rattle.sql_grammar.specs.declared.terminal.Terminal.{Terminal}
 use Rattle.sql_grammar.specs.declared.terminal.Terminal.TheVariants as terminal
-use Rattle.sql_grammar.specs.Terminals.{comparison_of, only}
+use Rattle.sql_grammar.specs.Terminals.{comparison_of, is_equality, only}
 use Rattle.sql_grammar.specs.Languages.{Language, Denial, affirmed, denied, Listed, plain}
 use Rattle.sql_grammar.specs.Reader.{Found, Reader, ◌>>=◌, takes, expect, closed, first_by, denial_in, joins_in, listed_in}
 use Rattle.sql_grammar.specs.Expression as e
 use Rattle.sql_grammar.specs.Expression.{Place, Sum, Behind, Test}
 use Rattle.sql_grammar.specs.ExpressionReader.{sum_in}
-use Rattle.sql_grammar.specs.TestReader.{pattern_in, nothing_by, like_by, range_in, between_by, among_in, in_by, denied_in, null_in, is_by, compare_by, behind_in, test_in}
+use Rattle.sql_grammar.specs.TestReader.{pattern_in, nothing_by, like_by, range_in, between_by, among_in, in_by, denied_in, null_in, is_by, any_by, any_in, right_by, right_in, compare_by, behind_in, test_in}
 use Rattle.sql_grammar.proofs.Marks.{Stops, Stops-weaken, Binds, mark_binds, only-binds, takes-found, takes-at, takes-stop, takes-other, joins-found, joins-at, joins-stop}
-use Rattle.sql_grammar.proofs.Reading.{Front, Reads, bind-found, fronted, expect-found, expect-at, closed-found, closed-at}
+use Rattle.sql_grammar.proofs.Reading.{Front, Reads, bind-found, fronted, passed, expect-found, expect-at, closed-found, closed-at}
 use Rattle.sql_grammar.proofs.Chains.{chain-reads}
+use Rattle.sql_grammar.proofs.Openings.{begins-takes, sum-starts}
 use Rattle.sql_grammar.proofs.Primaries.{tight, sum-reads}
 
 comparison-binds : (mark : Mark) (s : CompareOp) → comparison_of mark ≡ Some s → mark_binds mark ≡ 5
@@ -30,6 +34,26 @@ comparison-binds _ s h = absurd (cc)
 
 comparison-binds-so : Binds 5 comparison_of
 comparison-binds-so = record { binds_so = comparison-binds }
+
+equality-mark : (mark : Mark) (op : CompareOp) → comparison_of mark ≡ Some op → is_equality op ≡ true → mark ≡ marks.Equal
+equality-mark marks.Equal op h e = refl
+equality-mark marks.NotEqual op h e = let same : ops.Ne ≡ op = cc in absurd (false≢true (ap is_equality same ∙ e))
+equality-mark marks.Less op h e = let same : ops.Lt ≡ op = cc in absurd (false≢true (ap is_equality same ∙ e))
+equality-mark marks.LessEqual op h e = let same : ops.Le ≡ op = cc in absurd (false≢true (ap is_equality same ∙ e))
+equality-mark marks.Greater op h e = let same : ops.Gt ≡ op = cc in absurd (false≢true (ap is_equality same ∙ e))
+equality-mark marks.GreaterEqual op h e = let same : ops.Ge ≡ op = cc in absurd (false≢true (ap is_equality same ∙ e))
+equality-mark _ op h e = absurd (cc)
+
+-- The column that ANY asked for.
+record AnyAsked (t u x : Term) (all rest : List Terminal) : Type 0 where
+  pub ref : Ref
+  pub is : u ≡ term.Column ref
+  pub asks : term.AnyOf t ref ≡ x
+  pub closes : all ≡ terminal.Mark marks.Close ∷ rest
+
+any-found : (t u x : Term) (all rest : List Terminal) → any_by t u all ≡ Some (x, rest) → AnyAsked t u x all rest
+any-found t (term.Column r) x all rest h = let c = closed-found (term.AnyOf t r) x all rest h in record { ref = r; is = refl; asks = c.0; closes = c.1 }
+any-found t _ x all rest h = absurd (cc)
 
 -- Whether NOT stands first.
 record Denied (all : List Terminal) (d : Bool × List Terminal) : Type 0 where
@@ -146,14 +170,43 @@ module _ (inner : Place → Reader Term) (Inner : Place → Language Term) (nest
       let f = null-sound t us (denial_in us) x rest (denial-found us) h in
       record { front = f.front; spells = f.spells; split = takes-found marks.Is all us o ∙ f.split }
 
+  any-sound : (t : Term) (ts : List Terminal) (x : Term) (rest : List Terminal) → any_in inner t ts ≡ Some (x, rest) → Front (Behind Inner t) x (terminal.Mark marks.Equal ∷ terminal.Mark marks.Any ∷ ts) rest
+  unfolding any_in
+  any-sound t ts x rest h =
+      let s1 = bind-found (expect marks.Open ts) (λ _ rest. inner e.column rest >>= any_by t) x rest h in
+      let opens = expect-found marks.Open ts s1.x s1.after s1.first in
+      let s2 = bind-found (inner e.column s1.after) (any_by t) x rest s1.second in
+      let f = (nested e.column).sound s1.after s2.x s2.after s2.first in
+      let asked = any-found t s2.x x s2.after rest s2.second in
+      let spelled : Inner e.column (term.Column asked.ref) f.front = subst (λ u. Inner e.column u f.front) asked.is f.spells in
+      fronted (Behind Inner t) (term.AnyOf t asked.ref) x (terminal.Mark marks.Equal ∷ terminal.Mark marks.Any ∷ ts) (terminal.Mark marks.Equal ∷ terminal.Mark marks.Any ∷ terminal.Mark marks.Open ∷ (f.front ++ terminal.Mark marks.Close ∷ [])) rest rest
+      (e.any_of spelled)
+      (let e1 = f.split in let e2 = asked.closes in let e3 : (f.front ++ terminal.Mark marks.Close ∷ []) ++ rest ≡ f.front ++ (terminal.Mark marks.Close ∷ rest) = append_assoc f.front (terminal.Mark marks.Close ∷ []) rest in cc)
+      (ap (λ u. Some (u, rest)) asked.asks)
+
+  right-by : (t : Term) (mark : Mark) (op : CompareOp) (ts : List Terminal) (o : Option (List Terminal)) (x : Term) (rest : List Terminal) → comparison_of mark ≡ Some op → takes marks.Any ts ≡ o → right_by inner t op ts o ≡ Some (x, rest) → Front (Behind Inner t) x (terminal.Mark mark ∷ ts) rest
+  right-by t mark op ts None x rest m o h =
+      let s = bind-found (sum_in inner ts) (λ u rest. Some (term.Compare op t u, rest)) x rest h in
+      let right = sums.sound ts s.x s.after s.first in
+      fronted (Behind Inner t) (term.Compare op t s.x) x (terminal.Mark mark ∷ ts) (terminal.Mark mark ∷ right.front) s.after rest
+      (e.compare m right.spells) (ap (λ r. terminal.Mark mark ∷ r) right.split) s.second
+  right-by t mark op ts (Some us) x rest m o h =
+      let p = passed (is_equality op) (any_in inner t us) (x, rest) h in
+      let f = any-sound t us x rest p.1 in
+      let first = takes-found marks.Any ts us o in
+      let equal = equality-mark mark op m p.0 in
+      record { front = f.front; spells = f.spells; split = ap (λ m. terminal.Mark m ∷ ts) equal ∙ ap (λ r. terminal.Mark marks.Equal ∷ r) first ∙ f.split }
+
+  right-sound : (t : Term) (mark : Mark) (op : CompareOp) (ts : List Terminal) (x : Term) (rest : List Terminal) → comparison_of mark ≡ Some op → right_in inner t op ts ≡ Some (x, rest) → Front (Behind Inner t) x (terminal.Mark mark ∷ ts) rest
+  unfolding right_in
+  right-sound t mark op ts x rest m h = right-by t mark op ts (takes marks.Any ts) x rest m refl h
+
   compare-sound : (t : Term) (all : List Terminal) (o : Found CompareOp) (x : Term) (rest : List Terminal) → joins_in comparison_of all ≡ o → compare_by inner t all o ≡ Some (x, rest) → Front (Behind Inner t) x all rest
   compare-sound t all None x rest o h = is-sound t all (takes marks.Is all) x rest refl h
   compare-sound t all (Some p) x rest o h =
       let joined = joins-found comparison_of p.0 all p.1 o in
-      let s = bind-found (sum_in inner p.1) (λ u rest. Some (term.Compare p.0 t u, rest)) x rest h in
-      let right = sums.sound p.1 s.x s.after s.first in
-      fronted (Behind Inner t) (term.Compare p.0 t s.x) x all (terminal.Mark joined.mark ∷ right.front) s.after rest
-      (e.compare joined.joins_so right.spells) (joined.first ∙ ap (λ r. terminal.Mark joined.mark ∷ r) right.split) s.second
+      let f = right-sound t joined.mark p.0 p.1 x rest joined.joins_so h in
+      record { front = f.front; spells = f.spells; split = joined.first ∙ f.split }
 
   behind-sound : (t : Term) (all : List Terminal) (x : Term) (rest : List Terminal) → behind_in inner t all ≡ Some (x, rest) → Front (Behind Inner t) x all rest
   unfolding behind_in
@@ -234,13 +287,31 @@ module _ (inner : Place → Reader Term) (Inner : Place → Language Term) (nest
       let e4 = expect-at marks.Null rest in
       rw (e1, e2, e3, e4)
 
+  compare-complete : (t : Term) (mark : Mark) (op : CompareOp) (u : Term) (a rest : List Terminal) → comparison_of mark ≡ Some op → Sum Inner u a → Stops 5 rest → behind_in inner t (terminal.Mark mark ∷ (a ++ rest)) ≡ Some (term.Compare op t u, rest)
+  unfolding behind_in right_in
+  compare-complete t mark op u a rest h p stop =
+      let e0 = joins-at comparison_of op mark (a ++ rest) h in
+      let none : takes marks.Any (a ++ rest) ≡ None = begins-takes marks.Any 1 a rest (omega arith) ((sum-starts Inner).begins u a p) in
+      let e1 = sums.complete u a rest p (Stops-weaken 5 6 rest (omega arith) stop) in
+      rw (e0, none, e1)
+
+  any-complete : (t : Term) (r : Ref) (a rest : List Terminal) → Inner e.column (term.Column r) a → behind_in inner t (terminal.Mark marks.Equal ∷ terminal.Mark marks.Any ∷ terminal.Mark marks.Open ∷ ((a ++ terminal.Mark marks.Close ∷ []) ++ rest)) ≡ Some (term.AnyOf t r, rest)
+  unfolding behind_in right_in any_in
+  any-complete t r a rest p =
+      let tail : List Terminal = terminal.Mark marks.Open ∷ ((a ++ terminal.Mark marks.Close ∷ []) ++ rest) in
+      let e0 = joins-at comparison_of ops.Eq marks.Equal (terminal.Mark marks.Any ∷ tail) refl in
+      let e1 = takes-at marks.Any tail in
+      let e2 = expect-at marks.Open ((a ++ terminal.Mark marks.Close ∷ []) ++ rest) in
+      let e3 : (a ++ terminal.Mark marks.Close ∷ []) ++ rest ≡ a ++ terminal.Mark marks.Close ∷ rest = append_assoc a (terminal.Mark marks.Close ∷ []) rest in
+      let e4 = (nested e.column).complete (term.Column r) a (terminal.Mark marks.Close ∷ rest) p (omega arith) in
+      let e5 = closed-at (term.AnyOf t r) rest in
+      rw (e0, e1, e2, e3, e4, e5)
+
   behind-complete : (t : Term) (x : Term) (front rest : List Terminal) → Behind Inner t x front → Stops 5 rest → behind_in inner t (front ++ rest) ≡ Some (x, rest)
   unfolding behind_in
   behind-complete t x front rest e.nothing stop = nothing-complete t rest stop
-  behind-complete t x front rest (e.compare {mark} {op} {u} {a} h p) stop =
-      let e0 = joins-at comparison_of op mark (a ++ rest) h in
-      let e1 = sums.complete u a rest p (Stops-weaken 5 6 rest (omega arith) stop) in
-      rw (e0, e1)
+  behind-complete t x front rest (e.compare {mark} {op} {u} {a} h p) stop = compare-complete t mark op u a rest h p stop
+  behind-complete t x front rest (e.any_of {r} {a} p) stop = any-complete t r a rest p
   behind-complete t x front rest (e.is_null {negated} {n} d) stop = null-complete t negated n rest d
   behind-complete t x front rest (e.among {negated} {n} {ts} {a} d p) stop =
       let tail : List Terminal = terminal.Mark marks.Open ∷ (a ++ terminal.Mark marks.Close ∷ []) in
@@ -259,6 +330,7 @@ module _ (inner : Place → Reader Term) (Inner : Place → Language Term) (nest
   behind-stops : (t x : Term) (front rest : List Terminal) → Behind Inner t x front → Stops 5 rest → Stops 6 (front ++ rest)
   behind-stops t x front rest e.nothing stop = Stops-weaken 5 6 rest (omega arith) stop
   behind-stops t x front rest (e.compare {mark} {op} h p) stop = let so = comparison-binds mark op h in omega arith
+  behind-stops t x front rest (e.any_of p) stop = omega arith
   behind-stops t x front rest (e.is_null d) stop = omega arith
   behind-stops t x front rest (e.among {negated} {n} {a} d p) stop =
       subst (Stops 6) (sym (append_assoc n (terminal.Mark marks.In ∷ terminal.Mark marks.Open ∷ (a ++ terminal.Mark marks.Close ∷ [])) rest)) (denied-stops marks.In negated n (terminal.Mark marks.Open ∷ ((a ++ terminal.Mark marks.Close ∷ []) ++ rest)) d (omega arith))

@@ -7,7 +7,6 @@ use Rattle.std.proofs.lemmas.Bool.{and_parts, cond-false, cond-true, cond_both, 
 use Rattle.std.proofs.lemmas.List.{reverse-append, reverse-reverse, take-append-drop, drop-drop, length-take}
 use Rattle.std.proofs.lemmas.Option.{cond_some, none-some, same_Some}
 use Rattle.std.proofs.lemmas.Slice.Eq.{bytes_eq-Decides}
-use Rattle.sql_tree.specs.declared.select.Select.{Select}
 use Rattle.sql_tree.specs.declared.statement.Statement.{Statement}
 use Rattle.sql_tree.specs.declared.statement.Statement.TheVariants as statement
 use Rattle.sql_tokens.specs.declared.token.Token.{Token}
@@ -24,33 +23,21 @@ use Rattle.sql_grammar.specs.declared.terminal.Terminal.TheVariants as terminal
 use Rattle.sql_grammar.specs.Terminals.{is_keyword, same_mark}
 use Rattle.sql_grammar.proofs.Marks.{same_mark-self}
 use Rattle.sql_grammar.specs.Words.{entry, reserved, symbols, mark_of_word, mark_of_symbol, word_terminal, terminal_of, terminals_of}
-use Rattle.sql_grammar.specs.Query as q
-use Rattle.sql_grammar.specs.Query.{Question}
-use Rattle.sql_grammar.specs.QueryReader.{question_in, whole}
+use Rattle.sql_grammar.specs.QueryReader.{whole}
+use Rattle.sql_grammar.specs.Write as w
+use Rattle.sql_grammar.specs.WriteReader.{statement_in}
 use Rattle.sql_grammar.specs.Statement as s
 use Rattle.sql_grammar.specs.Statement.{IsGap, IsTrimmed, SpellsLoad, Spells, is_collection}
 use Rattle.sql_tokens.specs.Ends.{skip_space, trim, word_in, behind_word}
-use Rattle.sql_grammar.specs.StatementReader.{load_in, question_of, statement_of}
+use Rattle.sql_grammar.specs.StatementReader.{load_in, tokens_spell, statement_of}
 use Rattle.sql_grammar.proofs.Runs.{one-more, run_passes, rest_outside, outside-front, passes-reverse}
 use Rattle.sql_grammar.proofs.LoadTexts.{IsRun, gap-outside, collection-run, keyword-run, word_in-found, behind_word-found, trim-between}
-use Rattle.sql_grammar.proofs.Questions.{question-found, question-again}
+use Rattle.sql_grammar.proofs.Keywords.{other-keyword}
+use Rattle.sql_grammar.proofs.Questions.{question-complete}
+use Rattle.sql_grammar.proofs.Writes.{Said, asks, writes, statement-found, statement-again}
 
 load_word-run : (word : List ℕ) → is_keyword word (codes "LOAD") ≡ true → IsRun word
 load_word-run word h = keyword-run (codes "LOAD") word h (refl, omega arith)
-
-select_word-run : (word : List ℕ) → is_keyword word (codes "SELECT") ≡ true → IsRun word
-select_word-run word h = keyword-run (codes "SELECT") word h (refl, omega arith)
-
--- a word that is SELECT is not LOAD
-select_word-no-load : (word : List ℕ) → is_keyword word (codes "SELECT") ≡ true → is_keyword word (codes "LOAD") ≡ false
-select_word-no-load word h =
-    false_from_ne_true
-    _
-    (λ k.
-    let one : str_to_ascii_lowercase word ≡ str_to_ascii_lowercase (codes "SELECT") = (bytes_eq-Decides _ _).0 h in
-    let two : str_to_ascii_lowercase word ≡ str_to_ascii_lowercase (codes "LOAD") = (bytes_eq-Decides _ _).0 k in
-    let differ : 6 ≡ 4 = ap length (sym one ∙ two) in
-    omega arith)
 
 -- ---- what is spelled is read
 
@@ -141,7 +128,7 @@ load_is_spelled text is_load named =
       trimmed = trim-trimmed behind;
     }
 
--- ---- the first word of a question
+-- ---- the first word of what tokens say
 
 never-by : (m : Mark) (test : List ℕ → Bool) (e : List ℕ × Mark) (es : List (List ℕ × Mark)) (t : Bool) → test e.0 ≡ t
     → (entry test es ≡ Some m → ⊥) → (same_mark m e.1 ≡ false) → (if t then Some e.1 else entry test es) ≡ Some m → ⊥
@@ -176,16 +163,16 @@ select-by : (w : List ℕ) (others : List (List ℕ × Mark)) (t : Bool) → is_
 select-by w others true t never h = refl
 select-by w others false t never h = absurd (never h)
 
--- A token that is SELECT to the grammar is that word.
-record IsSelect (sort : TokenSort) (bytes : List ℕ) : Type 0 where
+-- A token is a keyword.
+record IsKeyword (keyword : List ℕ) (sort : TokenSort) (bytes : List ℕ) : Type 0 where
   pub word : sort ≡ sorts.Word
-  pub keyword : is_keyword bytes (codes "SELECT") ≡ true
+  pub is : is_keyword bytes keyword ≡ true
 
-select-token : (sort : TokenSort) (bytes : List ℕ) → terminal_of sort bytes ≡ terminal.Mark marks.Select → IsSelect sort bytes
+select-token : (sort : TokenSort) (bytes : List ℕ) → terminal_of sort bytes ≡ terminal.Mark marks.Select → IsKeyword (codes "SELECT") sort bytes
 unfolding same_mark
 select-token sorts.Word bytes h =
     let test : List ℕ → Bool = is_keyword bytes in
-    record { word = refl; keyword = select-by bytes (rest reserved) (is_keyword bytes (codes "SELECT")) refl (entry-never marks.Select test (rest reserved) refl) (word-by bytes (mark_of_word bytes) h) }
+    record { word = refl; is = select-by bytes (rest reserved) (is_keyword bytes (codes "SELECT")) refl (entry-never marks.Select test (rest reserved) refl) (word-by bytes (mark_of_word bytes) h) }
   where
     rest : List (List ℕ × Mark) → List (List ℕ × Mark)
     rest [] = []
@@ -195,13 +182,35 @@ select-token sorts.Numeral bytes h = absurd (cc)
 select-token sorts.Text bytes h = absurd (cc)
 select-token sorts.Symbol bytes h = absurd (symbol-by (mark_of_symbol bytes) (no-symbol-is-select (bytes_eq bytes)) h)
 
-record Led (front : List Terminal) : Type 0 where
-  pub others : List Terminal
-  pub is : front ≡ terminal.Mark marks.Select ∷ others
+-- A token that is a word to the grammar is that word.
+plain-by : (bytes w : List ℕ) (o : Option Mark) → word_terminal bytes o ≡ terminal.Word w → bytes ≡ w
+plain-by bytes w None h = cc
+plain-by bytes w (Some m) h = absurd (cc)
 
-question-led : (x : Select) (front : List Terminal) → Question x front → Led front
-question-led x front (q.star {a} {b} {c} p r t) = record { others = a ++ terminal.Mark marks.Star ∷ terminal.Mark marks.From ∷ (b ++ c); is = refl }
-question-led x front (q.select {a} {b} {c} {e} p i r t) = record { others = a ++ (b ++ terminal.Mark marks.From ∷ (c ++ e)); is = refl }
+plain-token : (keyword w : List ℕ) (sort : TokenSort) (bytes : List ℕ) → is_keyword w keyword ≡ true → terminal_of sort bytes ≡ terminal.Word w → IsKeyword keyword sort bytes
+plain-token keyword w sorts.Word bytes k h = let same : bytes ≡ w = plain-by bytes w (mark_of_word bytes) h in record { word = refl; is = ap (λ bytes. is_keyword bytes keyword) same ∙ k }
+plain-token keyword w sorts.Quoted bytes k h = absurd (cc)
+plain-token keyword w sorts.Numeral bytes k h = absurd (cc)
+plain-token keyword w sorts.Text bytes k h = absurd (cc)
+plain-token keyword w sorts.Symbol bytes k h = absurd (cc)
+
+-- The first terminal is a keyword, which is not LOAD.
+record Led (front : List Terminal) : Type 0 where
+  pub keyword : List ℕ
+  pub first : Terminal
+  pub others : List Terminal
+  pub is : front ≡ first ∷ others
+  pub leads : (sort : TokenSort) (bytes : List ℕ) → terminal_of sort bytes ≡ first → IsKeyword keyword sort bytes
+  pub run : IsRun keyword
+  pub no_load : is_keyword keyword (codes "LOAD") ≡ false
+
+select-led : (front others : List Terminal) → front ≡ terminal.Mark marks.Select ∷ others → Led front
+select-led front others e = record { keyword = codes "SELECT"; first = terminal.Mark marks.Select; others = others; is = e; leads = select-token; run = (refl, omega arith); no_load = refl }
+
+said-led : (x : Statement) (front : List Terminal) → Said x front → Led front
+said-led x front (asks {select} p) = let asked = question-complete select front p in select-led front asked.others asked.is
+said-led x front (writes (w.update {w = u} {c} {a} {b} k h p r)) = record { keyword = codes "UPDATE"; first = terminal.Word u; others = terminal.Word c ∷ terminal.Mark marks.Set ∷ (a ++ b); is = refl; leads = λ sort bytes. plain-token (codes "UPDATE") u sort bytes k; run = (refl, omega arith); no_load = refl }
+said-led x front (writes (w.delete {w = u} {c} {a} k h r)) = record { keyword = codes "DELETE"; first = terminal.Word u; others = terminal.Mark marks.From ∷ terminal.Word c ∷ a; is = refl; leads = λ sort bytes. plain-token (codes "DELETE") u sort bytes k; run = (refl, omega arith); no_load = refl }
 
 -- The bytes before a token, the token, and the bytes behind it.
 parts : (text : List ℕ) (from to : ℕ) → from ≤ to → text ≡ slice_range text 0 from ++ (slice_range text from to ++ drop to text)
@@ -215,41 +224,45 @@ parts text from to h =
     let e6 : take (from - 0) text ≡ take from text = ap (λ n. take n text) e0 in
     sym e1 ∙ ap (λ r. take from text ++ r) (sym e2 ∙ ap (λ r. take (to - from) (drop from text) ++ r) (e3 ∙ e5)) ∙ ap (λ r. r ++ (take (to - from) (drop from text) ++ drop to text)) (sym e6)
 
-first-word : (text : List ℕ) (token : Token) → IsSpace (slice_range text 0 token.from) → Stands text token → IsSelect token.sort (written text token) → is_keyword (word_in text) (codes "SELECT") ≡ true
-first-word text token space stands select =
+first-word : (keyword text : List ℕ) (token : Token) → IsRun keyword → IsSpace (slice_range text 0 token.from) → Stands text token → IsKeyword keyword token.sort (written text token) → is_keyword (word_in text) keyword ≡ true
+first-word keyword text token long space stands is =
     let word : List ℕ = written text token in
-    let run : IsRun word = keyword-run (codes "SELECT") word select.keyword (refl, omega arith) in
+    let run : IsRun word = keyword-run keyword word is.is long in
     let ordered : token.from ≤ token.to = omega (arith, run.1, length-take (token.to - token.from) (drop token.from text)) in
-    let outside : BeginsOutside is_word_byte (drop token.to text) = subst (λ sort. BeginsOutside (goes_on sort word) (drop token.to text)) select.word stands.longest in
+    let outside : BeginsOutside is_word_byte (drop token.to text) = subst (λ sort. BeginsOutside (goes_on sort word) (drop token.to text)) is.word stands.longest in
     let found : word_in (slice_range text 0 token.from ++ (word ++ drop token.to text)) ≡ word = word_in-found (slice_range text 0 token.from) word (drop token.to text) space run outside in
-    ap (λ bytes. is_keyword (word_in bytes) (codes "SELECT")) (parts text token.from token.to ordered) ∙ ap (λ word. is_keyword word (codes "SELECT")) found ∙ select.keyword
+    ap (λ bytes. is_keyword (word_in bytes) keyword) (parts text token.from token.to ordered) ∙ ap (λ word. is_keyword word keyword) found ∙ is.is
 
-begins-by : (text : List ℕ) (tokens : List Token) → HasFrom text 0 tokens → Led (terminals_of text tokens) → is_keyword (word_in text) (codes "SELECT") ≡ true
+begins-by : (text : List ℕ) (tokens : List Token) → HasFrom text 0 tokens → Led (terminals_of text tokens) → is_keyword (word_in text) (codes "LOAD") ≡ false
 begins-by text [] has led = let is = led.is in absurd (cc)
-begins-by text (token ∷ more) (tokens.next at space stands others) led = first-word text token space stands (select-token token.sort (written text token) (let is = led.is in cc))
+begins-by text (token ∷ more) (tokens.next at space stands others) led =
+    let word = first-word led.keyword text token led.run space stands (led.leads token.sort (written text token) (let is = led.is in cc)) in
+    other-keyword (word_in text) led.keyword (codes "LOAD") word led.no_load
 
 module _ (told : (text : List ℕ) (tokens : List Token) → (tokens_of text ≡ Some tokens) ↔ AreTokens text tokens) where
-  question_is_read : (text : List ℕ) (select : Select) (tokens : List Token) → AreTokens text tokens → Question select (terminals_of text tokens) → statement_of text ≡ Some (statement.Select select)
-  unfolding statement_of question_of
-  question_is_read text select tokens are question =
+  said_is_read : (text : List ℕ) (x : Statement) (tokens : List Token) → AreTokens text tokens → Said x (terminals_of text tokens) → statement_of text ≡ Some x
+  unfolding statement_of tokens_spell
+  said_is_read text x tokens are said =
       let e1 : tokens_of text ≡ Some tokens = (told text tokens).1 are in
-      let e2 : whole (question_in (terminals_of text tokens)) ≡ Some select = question-again (terminals_of text tokens) select question in
-      let no_load : is_keyword (word_in text) (codes "LOAD") ≡ false = select_word-no-load (word_in text) (begins-by text tokens are.all (question-led select (terminals_of text tokens) question)) in
+      let e2 : whole (statement_in (terminals_of text tokens)) ≡ Some x = statement-again (terminals_of text tokens) x said in
+      let no_load : is_keyword (word_in text) (codes "LOAD") ≡ false = begins-by text tokens are.all (said-led x (terminals_of text tokens) said) in
       let short : not (nat_le (length text) most_statement_bytes) ≡ false = ap not (le-leb (length text) most_statement_bytes are.fits) in
       cond-false _ _ _ short ∙ cond-false _ _ _ no_load
-      ∙ ap (λ o. option_and_then (λ tokens. option_map (λ select. statement.Select select) (whole (question_in (terminals_of text tokens)))) o) e1
-      ∙ ap (λ o. option_map (λ select. statement.Select select) o) e2
+      ∙ ap (λ o. option_and_then (λ tokens. whole (statement_in (terminals_of text tokens))) o) e1
+      ∙ e2
 
   spelled_is_read : (text : List ℕ) (x : Statement) → Spells text x → statement_of text ≡ Some x
   spelled_is_read text x (s.load {collection} {json} fits spells) = load_is_read text collection json fits spells
-  spelled_is_read text x (s.question {select} {tokens} are question) = question_is_read text select tokens are question
+  spelled_is_read text x (s.question {select} {tokens} are question) = said_is_read text (statement.Select select) tokens are (asks question)
+  spelled_is_read text x (s.write {tokens} are write) = said_is_read text x tokens are (writes write)
 
-  question-by : (text : List ℕ) (o : Option (List Token)) (x : Statement) → tokens_of text ≡ o → option_and_then (λ tokens. option_map (λ select. statement.Select select) (whole (question_in (terminals_of text tokens)))) o ≡ Some x → Spells text x
-  question-by text None x e h = absurd (none-some x h)
-  question-by text (Some tokens) x e h = select-of (whole (question_in (terminals_of text tokens))) refl h where
-    select-of : (o : Option Select) → whole (question_in (terminals_of text tokens)) ≡ o → option_map (λ select. statement.Select select) o ≡ Some x → Spells text x
-    select-of None w f = absurd (none-some x f)
-    select-of (Some select) w f = subst (Spells text) (same_Some (statement.Select select) x f) (s.question ((told text tokens).0 e) (question-found (terminals_of text tokens) select w))
+  said-spells : (text : List ℕ) (x : Statement) (tokens : List Token) → AreTokens text tokens → Said x (terminals_of text tokens) → Spells text x
+  said-spells text x tokens are (asks question) = s.question are question
+  said-spells text x tokens are (writes write) = s.write are write
+
+  tokens-by : (text : List ℕ) (o : Option (List Token)) (x : Statement) → tokens_of text ≡ o → option_and_then (λ tokens. whole (statement_in (terminals_of text tokens))) o ≡ Some x → Spells text x
+  tokens-by text None x e h = absurd (none-some x h)
+  tokens-by text (Some tokens) x e h = said-spells text x tokens ((told text tokens).0 e) (statement-found (terminals_of text tokens) x h)
 
   load_read_is_spelled : (text : List ℕ) (x : Statement) → length text ≤ most_statement_bytes → is_keyword (word_in text) (codes "LOAD") ≡ true → load_in (behind_word text) ≡ Some x → Spells text x
   load_read_is_spelled text x fits is_load h =
@@ -257,11 +270,11 @@ module _ (told : (text : List ℕ) (tokens : List Token) → (tokens_of text ≡
       subst (Spells text) found.1 (s.load fits (load_is_spelled text is_load found.0))
 
   read-by : (text : List ℕ) (fits is_load : Bool) (x : Statement) → nat_le (length text) most_statement_bytes ≡ fits → is_keyword (word_in text) (codes "LOAD") ≡ is_load
-      → (if not fits then None else if is_load then load_in (behind_word text) else question_of text) ≡ Some x → Spells text x
-  unfolding question_of
+      → (if not fits then None else if is_load then load_in (behind_word text) else tokens_spell text) ≡ Some x → Spells text x
+  unfolding tokens_spell
   read-by text false is_load x f l h = absurd (none-some x h)
   read-by text true true x f l h = load_read_is_spelled text x (leb-true _ _ f) l h
-  read-by text true false x f l h = question-by text (tokens_of text) x refl h
+  read-by text true false x f l h = tokens-by text (tokens_of text) x refl h
 
   read_is_spelled : (text : List ℕ) (x : Statement) → statement_of text ≡ Some x → Spells text x
   unfolding statement_of

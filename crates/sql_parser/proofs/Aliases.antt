@@ -3,7 +3,7 @@ use Rattle.std.proofs.Common.{◌≡◌, List, [], ◌∷◌, true, false, Some,
 use Rattle.sql_grammar.specs.declared.terminal.Terminal.{Terminal}
 use Rattle.sql_grammar.specs.declared.terminal.Terminal.TheVariants as terminal
 use Rattle.sql_parser.specs.Cursor.{comes_word}
-use Rattle.sql_grammar.specs.QueryReader.{alias_in, bare_alias_in}
+use Rattle.sql_grammar.specs.TablesReader.{alias_in, bare_alias_in}
 
 pub bare_alias_word : (all : List Terminal) → comes_word all ≡ true → bare_alias_in all ≡ alias_in all
 unfolding alias_in bare_alias_in

@@ -1,9 +1,10 @@
 ghost use Rattle.std.specs.Prelude.{◌≡◌, ◌≤◌, length};
 ghost use Rattle.sql_parser.specs.Cursor.{Gives};
 ghost use Rattle.sql_grammar.specs.Expression.{expr};
+ghost use Rattle.sql_grammar.specs.Terminals.{is_equality, takes_star};
 ghost use Rattle.sql_grammar.specs.Reader.{listed_in};
-ghost use Rattle.sql_grammar.specs.TestReader.{among_in, behind_in, denied_in, pattern_in, range_in, test_in};
-ghost use Rattle.sql_grammar.specs.LevelReader.{conj_in, expr_in, inside_in, neg_in};
+ghost use Rattle.sql_grammar.specs.TestReader.{among_in, any_by, any_in, behind_in, denied_in, pattern_in, range_in, right_in, test_in};
+ghost use Rattle.sql_grammar.specs.LevelReader.{argument_in, conj_in, expr_in, inside_in, neg_in};
 ghost use Rattle.sql_parser.specs.Nests.{Nests};
 
 use crate::grammar::Grammar;
@@ -12,7 +13,8 @@ use crate::nested::Nested;
 use crate::parse_fault::ParseFault;
 use crate::terminals::Terminals;
 use sql_grammar::{Mark, Terminal, and_node, between_node, or_node};
-use sql_tree::Term;
+use doc_values::CompareOp;
+use sql_tree::{AggCall, Term};
 use sqlite_items::{Boxed, Items};
 
 impl<F: Fn(&mut Terminals, usize, Nested) -> Result<Term, ParseFault>> Grammar<F> {
@@ -73,10 +75,7 @@ impl<F: Fn(&mut Terminals, usize, Nested) -> Result<Term, ParseFault>> Grammar<F
         ensures shorter { length terminals.new ≤ length terminals.old }
     {
         if let Some(op) = terminals.comparison() {
-            let right = self.sum(terminals)?;
-            let left = Boxed::new(terminals.alloc(), left)?;
-            let right = Boxed::new(terminals.alloc(), right)?;
-            return Ok(Term::Compare { op, left, right });
+            return self.right(terminals, left, op);
         }
         if terminals.takes(Mark::Is) {
             let negated = terminals.denial();
@@ -86,6 +85,64 @@ impl<F: Fn(&mut Terminals, usize, Nested) -> Result<Term, ParseFault>> Grammar<F
         }
         let negated = terminals.denial();
         self.behind_denial(terminals, left, negated)
+    }
+
+    /// ANY and a column, or a sum, behind a comparison.
+    #[tactic(auto, unfolding(sql_grammar::specs::TestReader::right_in))]
+    fn right(
+        &self,
+        terminals: &mut Terminals,
+        left: Term,
+        op: CompareOp,
+    ) -> Result<Term, ParseFault>
+        requires { Nests self.now.levels (F.pre self.now.inner) (F.post self.now.inner) }
+        ensures exact { Gives (right_in (inside_in self.now.levels) left op terminals.old) result terminals.new }
+        ensures shorter { length terminals.new ≤ length terminals.old }
+    {
+        if terminals.takes(Mark::Any) {
+            if !is_equality(op) {
+                return Err(ParseFault::Syntax);
+            }
+            return self.any_of(terminals, left);
+        }
+        let right = self.sum(terminals)?;
+        let left = Boxed::new(terminals.alloc(), left)?;
+        let right = Boxed::new(terminals.alloc(), right)?;
+        Ok(Term::Compare { op, left, right })
+    }
+
+    /// The column in brackets behind ANY.
+    #[tactic(auto, unfolding(sql_grammar::specs::TestReader::any_in))]
+    fn any_of(&self, terminals: &mut Terminals, left: Term) -> Result<Term, ParseFault>
+        requires { Nests self.now.levels (F.pre self.now.inner) (F.post self.now.inner) }
+        ensures exact { Gives (any_in (inside_in self.now.levels) left terminals.old) result terminals.new }
+        ensures shorter { length terminals.new ≤ length terminals.old }
+    {
+        terminals.expect(Mark::Open)?;
+        let column = (self.inner)(terminals, self.levels, Nested::Column)?;
+        any_column(terminals, left, column)
+    }
+
+    /// The argument of an aggregate.
+    #[tactic(auto, unfolding(sql_grammar::specs::LevelReader::argument_in))]
+    pub(crate) fn argument(
+        &self,
+        terminals: &mut Terminals,
+        call: AggCall,
+    ) -> Result<Term, ParseFault>
+        requires { Nests self.now.levels (F.pre self.now.inner) (F.post self.now.inner) }
+        ensures exact { Gives (argument_in (inside_in self.now.levels) call terminals.old) result terminals.new }
+        ensures shorter { length terminals.new ≤ length terminals.old }
+    {
+        if terminals.takes(Mark::Star) {
+            if !takes_star(call) {
+                return Err(ParseFault::Syntax);
+            }
+            return Ok(Term::CountAll);
+        }
+        let arg = self.expr(terminals)?;
+        let arg = Boxed::new(terminals.alloc(), arg)?;
+        Ok(Term::Aggregate { call, arg })
     }
 
     /// What a NOT may stand before.
@@ -194,5 +251,39 @@ fn pattern(terminals: &mut Terminals, left: Term, negated: bool) -> Result<Term,
             })
         }
         _ => Err(ParseFault::Syntax),
+    }
+}
+
+/// The column that ANY asks for, with the bracket that closes.
+fn any_column(terminals: &mut Terminals, left: Term, column: Term) -> Result<Term, ParseFault>
+    ensures exact { Gives (any_by left column terminals.old) result terminals.new }
+    ensures shorter { length terminals.new ≤ length terminals.old }
+{
+    match column {
+        Term::Column(column) => {
+            terminals.expect(Mark::Close)?;
+            let arg = Boxed::new(terminals.alloc(), left)?;
+            Ok(Term::AnyOf { arg, column })
+        }
+        _ => Err(ParseFault::Syntax),
+    }
+}
+
+fn is_equality(op: CompareOp) -> bool
+    ensures exact { result ≡ is_equality op }
+{
+    match op {
+        CompareOp::Eq => true,
+        _ => false,
+    }
+}
+
+/// Whether a star may stand in the brackets of the call.
+fn takes_star(call: AggCall) -> bool
+    ensures exact { result ≡ takes_star call }
+{
+    match call {
+        AggCall::Count => true,
+        _ => false,
     }
 }

@@ -37,6 +37,7 @@ fn inner(terminals: &mut Terminals, levels: usize, nested: Nested) -> Result<Ter
         Nested::Neg => grammar.neg(terminals),
         Nested::Unary => grammar.unary(terminals),
         Nested::Column => column(terminals),
+        Nested::Argument(call) => grammar.argument(terminals, call),
     }
 }
 

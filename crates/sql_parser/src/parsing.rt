@@ -1,11 +1,11 @@
 ghost use Rattle.std.specs.Prelude.{◌≡◌, Some, None, IfOk, IfErr};
 ghost use Rattle.sql_parser.specs.declared.parse_fault.ParseFault.TheVariants.{Syntax};
 ghost use Rattle.sql_grammar.specs.Statement.{is_collection};
-ghost use Rattle.sql_grammar.specs.StatementReader.{load_in, question_of, statement_of};
+ghost use Rattle.sql_grammar.specs.StatementReader.{load_in, statement_of, tokens_spell};
 
 use crate::parse_fault::ParseFault;
-use crate::query::question;
 use crate::terminals::Terminals;
+use crate::writes::statement;
 use doc_values::Utf;
 use sql_grammar::{is_alias, is_keyword, mark_of_word, terminals_of};
 use sql_tokens::{is_word, split_word, tokens, trim};
@@ -28,7 +28,7 @@ pub fn parse(alloc: Global, text: &str) -> Result<Statement, ParseFault>
     if is_keyword(first, "LOAD") {
         load(alloc, rest)
     } else {
-        asked(alloc, text)
+        by_tokens(alloc, text)
     }
 }
 
@@ -54,18 +54,18 @@ fn is_collection(text: &str) -> bool
     is_word(text) && is_alias(text) && mark_of_word(text).is_none()
 }
 
-/// The question that the tokens of a text spell.
-#[tactic(auto, unfolding(sql_grammar::specs::StatementReader::question_of))]
-fn asked(alloc: Global, text: &str) -> Result<Statement, ParseFault>
-    ensures ok { IfOk result (λ statement. question_of text.now ≡ Some statement) }
-    ensures syntax { IfErr result (λ fault. fault ≡ Syntax → question_of text.now ≡ None) }
+/// The question, update or delete that the tokens of a text spell.
+#[tactic(auto, unfolding(sql_grammar::specs::StatementReader::tokens_spell))]
+fn by_tokens(alloc: Global, text: &str) -> Result<Statement, ParseFault>
+    ensures ok { IfOk result (λ statement. tokens_spell text.now ≡ Some statement) }
+    ensures syntax { IfErr result (λ fault. fault ≡ Syntax → tokens_spell text.now ≡ None) }
 {
     let tokens = tokens(alloc, text)?;
     let found = terminals_of(alloc, text, tokens.as_slice())?;
     let mut terminals = Terminals::new(alloc, found);
-    let select = question(&mut terminals)?;
+    let spelled = statement(&mut terminals)?;
     if terminals.next().is_some() {
         return Err(ParseFault::Syntax);
     }
-    Ok(Statement::Select(select))
+    Ok(spelled)
 }

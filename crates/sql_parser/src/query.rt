@@ -1,31 +1,31 @@
-ghost use Rattle.std.specs.Prelude.{◌≡◌, ◌≤◌, length, Some};
+ghost use Rattle.std.specs.Prelude.{◌≡◌, ◌≤◌, length, Some, [], ◌∷◌, true, false};
 ghost use Rattle.sql_parser.specs.Cursor.{Gives};
-ghost use Rattle.sql_grammar.specs.Query.{is_numeral};
-ghost use Rattle.sql_grammar.specs.QueryReader.{alias_in, at_most_in, bare_alias_in, direction_in, distinct_in, from_in, item_in, key_in, keys_in, named_in, numeral_in, question_in, table_in};
+ghost use Rattle.sql_grammar.specs.Query.{is_numeral, parts_of};
+ghost use Rattle.sql_grammar.specs.QueryReader.{at_most_in, direction_in, distinct_in, ended_in, from_in, groups_in, is_ungrouped, item_in, key_in, keys_in, numeral_in, question_in, star_in};
 ghost use Rattle.sql_grammar.specs.Reader.{listed_in};
 
 use crate::grammar::expression;
 use crate::members::{listed_at_most, optional};
 use crate::parse_fault::ParseFault;
 use crate::terminals::Terminals;
-use doc_values::Utf;
-use sql_grammar::{Mark, Terminal, is_alias};
-use sql_tree::{Item, Key, Select, Table, Term};
+use crate::tables::{alias, table, tables};
+use sql_grammar::{Mark, Terminal};
+use sql_tree::{Item, Join, Key, Ref, Select, Table, Term};
 use sqlite_items::Items;
+use std::alloc::Global;
 
-/// A question.
+/// A question, behind SELECT.
 #[tactic(auto, unfolding(sql_grammar::specs::QueryReader::question_in, sql_grammar::specs::QueryReader::shown_in))]
 pub(crate) fn question(terminals: &mut Terminals) -> Result<Select, ParseFault>
     ensures exact { Gives (question_in terminals.old) result terminals.new }
+    ensures shorter { length terminals.new ≤ length terminals.old }
 {
-    terminals.expect(Mark::Select)?;
     let distinct = takes_distinct(terminals);
     if terminals.takes(Mark::Star) {
-        let items = Items::new(terminals.alloc());
-        return from(terminals, true, distinct, items);
+        return star(terminals, distinct);
     }
     let items = items(terminals)?;
-    from(terminals, false, distinct, items)
+    from(terminals, distinct, items)
 }
 
 /// Takes DISTINCT, if it comes next, and says whether it did.
@@ -37,40 +37,112 @@ fn takes_distinct(terminals: &mut Terminals) -> bool
     terminals.takes(Mark::Distinct)
 }
 
-/// What a question says from FROM on.
-#[tactic(auto, unfolding(sql_grammar::specs::QueryReader::from_in, sql_grammar::specs::QueryReader::tail_in))]
-fn from(
+/// A question of whole documents, from FROM on.
+#[tactic(auto, unfolding(sql_grammar::specs::QueryReader::star_in))]
+fn star(terminals: &mut Terminals, distinct: bool) -> Result<Select, ParseFault>
+    ensures exact { Gives (star_in distinct terminals.old) result terminals.new }
+    ensures shorter { length terminals.new ≤ length terminals.old }
+{
+    terminals.expect(Mark::From)?;
+    let table = table(terminals)?;
+    let select = ended_star(terminals, distinct, table)?;
+    if is_ungrouped(&select) {
+        Ok(select)
+    } else {
+        Err(ParseFault::Syntax)
+    }
+}
+
+/// A question of whole documents, behind its table.
+fn ended_star(
+    terminals: &mut Terminals,
+    distinct: bool,
+    table: Table,
+) -> Result<Select, ParseFault>
+    ensures exact { Gives (ended_in true distinct [] (table ∷ [], []) terminals.old) result terminals.new }
+    ensures shorter { length terminals.new ≤ length terminals.old }
+{
+    let alloc = terminals.alloc();
+    let mut tables = Items::new(alloc);
+    tables.push(table)?;
+    ended(
+        terminals,
+        true,
+        distinct,
+        Items::new(alloc),
+        (tables, Items::new(alloc)),
+    )
+}
+
+/// Whether the question has neither GROUP BY nor HAVING.
+fn is_ungrouped(select: &Select) -> bool
+    ensures exact { result ≡ is_ungrouped select.now }
+{
+    select.grouping.len() == 0 && select.having.is_none()
+}
+
+/// A question of items, from FROM on.
+#[tactic(auto, unfolding(sql_grammar::specs::QueryReader::from_in))]
+fn from(terminals: &mut Terminals, distinct: bool, items: Items<Item>) -> Result<Select, ParseFault>
+    ensures exact { Gives (from_in distinct items terminals.old) result terminals.new }
+    ensures shorter { length terminals.new ≤ length terminals.old }
+{
+    terminals.expect(Mark::From)?;
+    let from = tables(terminals)?;
+    ended(terminals, false, distinct, items, from)
+}
+
+/// A question, behind its tables.
+#[tactic(auto, unfolding(sql_grammar::specs::QueryReader::ended_in, sql_grammar::specs::QueryReader::tail_in))]
+fn ended(
     terminals: &mut Terminals,
     star: bool,
     distinct: bool,
     items: Items<Item>,
+    from: (Items<Table>, Items<Join>),
 ) -> Result<Select, ParseFault>
-    ensures exact { Gives (from_in star distinct items terminals.old) result terminals.new }
+    ensures exact { Gives (ended_in star distinct items from terminals.old) result terminals.new }
+    ensures shorter { length terminals.new ≤ length terminals.old }
 {
-    terminals.expect(Mark::From)?;
-    let table = table(terminals)?;
     let test = optional(terminals, Mark::Where, |terminals| expression(terminals))?;
+    let grouping = optional(terminals, Mark::Group, |terminals| grouping(terminals))?;
+    let having = optional(terminals, Mark::Having, |terminals| expression(terminals))?;
     let keys = optional(terminals, Mark::Order, |terminals| keys(terminals))?;
     let limit = optional(terminals, Mark::Limit, |terminals| numeral(terminals))?;
     let alloc = terminals.alloc();
-    let mut tables = Items::new(alloc);
-    tables.push(table)?;
-    let keys = match keys {
-        Some(keys) => keys,
-        None => Items::new(alloc),
-    };
     Ok(Select {
         star,
         distinct,
         items,
-        tables,
-        joins: Items::new(alloc),
+        tables: from.0,
+        joins: from.1,
         test,
-        grouping: Items::new(alloc),
-        having: None,
-        keys,
+        grouping: parts_of(alloc, grouping),
+        having,
+        keys: parts_of(alloc, keys),
         limit,
     })
+}
+
+/// The parts that stand there.
+fn parts_of<T: Drop>(alloc: Global, parts: Option<Items<T>>) -> Items<T>
+    ensures exact { result ≡ parts_of parts }
+{
+    match parts {
+        Some(parts) => parts,
+        None => Items::new(alloc),
+    }
+}
+
+/// The references behind GROUP.
+#[tactic(auto, unfolding(sql_grammar::specs::QueryReader::groups_in))]
+fn grouping(terminals: &mut Terminals) -> Result<Items<Ref>, ParseFault>
+    ensures exact { Gives (groups_in terminals.old) result terminals.new }
+    ensures shorter { length terminals.new ≤ length terminals.old }
+{
+    terminals.expect(Mark::By)?;
+    let all = listed_at_most(terminals, |terminals| terminals.reference())?;
+    Ok(all)
 }
 
 /// The items, with commas between them.
@@ -90,65 +162,6 @@ fn item(terminals: &mut Terminals) -> Result<Item, ParseFault>
     let expr = expression(terminals)?;
     let alias = alias(terminals)?;
     Ok(Item { expr, alias })
-}
-
-#[tactic(auto, unfolding(sql_grammar::specs::QueryReader::table_in))]
-fn table(terminals: &mut Terminals) -> Result<Table, ParseFault>
-    ensures exact { Gives (table_in terminals.old) result terminals.new }
-    ensures shorter { length terminals.new ≤ length terminals.old }
-{
-    match terminals.next() {
-        Some(Terminal::Word(collection)) => {
-            if !is_alias(collection.text()) {
-                return Err(ParseFault::Syntax);
-            }
-            let alias = alias(terminals)?;
-            Ok(Table { collection, alias })
-        }
-        _ => Err(ParseFault::Syntax),
-    }
-}
-
-/// The alias of an item or a table, with AS or without, if it has one.
-#[tactic(auto, unfolding(sql_grammar::specs::QueryReader::named_in))]
-fn alias(terminals: &mut Terminals) -> Result<Option<Utf>, ParseFault>
-    ensures exact { Gives (named_in terminals.old) result terminals.new }
-    ensures shorter { length terminals.new ≤ length terminals.old }
-{
-    if terminals.takes(Mark::As) {
-        return announced_alias(terminals);
-    }
-    bare_alias(terminals)
-}
-
-/// The alias behind AS.
-#[tactic(auto, unfolding(sql_grammar::specs::QueryReader::alias_in))]
-fn announced_alias(terminals: &mut Terminals) -> Result<Option<Utf>, ParseFault>
-    ensures exact { Gives (alias_in terminals.old) result terminals.new }
-    ensures shorter { length terminals.new ≤ length terminals.old }
-{
-    match terminals.next() {
-        Some(Terminal::Word(word)) => {
-            if is_alias(word.text()) {
-                Ok(Some(word))
-            } else {
-                Err(ParseFault::Syntax)
-            }
-        }
-        _ => Err(ParseFault::Syntax),
-    }
-}
-
-/// The alias without AS, if a word comes next.
-#[tactic(auto, using(crate::proofs::Aliases::bare_alias_word, crate::proofs::Aliases::bare_alias_none))]
-fn bare_alias(terminals: &mut Terminals) -> Result<Option<Utf>, ParseFault>
-    ensures exact { Gives (bare_alias_in terminals.old) result terminals.new }
-    ensures shorter { length terminals.new ≤ length terminals.old }
-{
-    if terminals.comes_word() {
-        return announced_alias(terminals);
-    }
-    Ok(None)
 }
 
 /// The keys behind ORDER.

@@ -11,7 +11,7 @@ use sql_tree::Ref;
 impl Terminals {
     /// The name of a column.
     #[tactic(auto, unfolding(sql_grammar::specs::ExpressionReader::name_in))]
-    fn name(&mut self) -> Result<Utf, ParseFault>
+    pub(crate) fn name(&mut self) -> Result<Utf, ParseFault>
         ensures exact { Gives (name_in self.old) result self.new }
         ensures shorter { length self.new ≤ length self.old }
     {

@@ -1,11 +1,11 @@
 ghost use Rattle.std.specs.Prelude.{◌≡◌, ◌≤◌, length};
 ghost use Rattle.sql_parser.specs.Cursor.{Gives};
-ghost use Rattle.sql_grammar.specs.ExpressionReader.{mark_in, primary_in, product_in, sum_in, unary_in, wanted_by, word_in};
+ghost use Rattle.sql_grammar.specs.ExpressionReader.{call_by, mark_in, primary_in, product_in, sum_in, unary_in, wanted_by, word_in};
 ghost use Rattle.sql_grammar.specs.LevelReader.{inside_in};
 ghost use Rattle.sql_parser.specs.Nests.{Nests};
 ghost use Rattle.sql_grammar.specs.Nodes.{addend};
 ghost use Rattle.sql_grammar.specs.Reader.{members_in};
-ghost use Rattle.sql_grammar.specs.Terminals.{sign_of};
+ghost use Rattle.sql_grammar.specs.Terminals.{kind_of, sign_of};
 
 use crate::grammar::Grammar;
 use crate::members::members;
@@ -118,14 +118,28 @@ impl<F: Fn(&mut Terminals, usize, Nested) -> Result<Term, ParseFault>> Grammar<F
         ensures shorter { length terminals.new ≤ length terminals.old }
     {
         if terminals.takes(Mark::Open) {
-            let Some(kind) = kind_of(word.text()) else {
-                return Err(ParseFault::Syntax);
-            };
-            let column = (self.inner)(terminals, self.levels, Nested::Column)?;
-            return wanted(terminals, kind, column);
+            return self.call(terminals, word);
         }
         let column = terminals.reference_from(word)?;
         Ok(Term::Column(column))
+    }
+
+    /// A call, behind its bracket.
+    fn call(&self, terminals: &mut Terminals, word: Utf) -> Result<Term, ParseFault>
+        requires { Nests self.now.levels (F.pre self.now.inner) (F.post self.now.inner) }
+        ensures exact { Gives (call_by (inside_in self.now.levels) word (kind_of word) terminals.old) result terminals.new }
+        ensures shorter { length terminals.new ≤ length terminals.old }
+    {
+        if let Some(kind) = kind_of(word.text()) {
+            let column = (self.inner)(terminals, self.levels, Nested::Column)?;
+            return wanted(terminals, kind, column);
+        }
+        let Some(call) = call_of(word.text()) else {
+            return Err(ParseFault::Syntax);
+        };
+        let term = (self.inner)(terminals, self.levels, Nested::Argument(call))?;
+        terminals.expect(Mark::Close)?;
+        Ok(term)
     }
 }
 

@@ -1,9 +1,9 @@
 use Rattle.std.proofs.Common.{arith, ◌≡◌, ◌-◌, ap, sym, subst, ◌∙◌}
 use Rattle.sql_parser.specs.Cursor.{Gives}
 use Rattle.sql_parser.specs.Nests.{place_of}
-use Rattle.sql_grammar.specs.Expression.{expr, neg, unary, column}
+use Rattle.sql_grammar.specs.Expression.{expr, neg, unary, column, argument}
 use Rattle.sql_grammar.specs.ExpressionReader.{column_in, unary_in}
-use Rattle.sql_grammar.specs.LevelReader.{inside_in, expr_in, neg_in}
+use Rattle.sql_grammar.specs.LevelReader.{inside_in, expr_in, neg_in, argument_in}
 use Rattle.sql_parser.proofs.Inside.{inside_none, inside_some}
 use Rattle.sql_parser.proofs.grammar.+inner.Goals as goal
 
@@ -33,3 +33,9 @@ returns-in-Column-clause-exact t c =
     let e : inside_in c.args.levels (place_of c.args.nested) c.args.terminals.now ≡ column_in c.args.terminals.now =
     ap (λ n. inside_in c.args.levels (place_of n) c.args.terminals.now) c.in-Column.is ∙ inside_some c.args.levels column c.args.terminals.now (omega arith) in
     subst (λ f. Gives f c.column.result c.column.new.terminals) (sym e) c.column.ensures.exact
+
+pub returns-in-Argument-clause-exact : goal.returns-in-Argument-clause-exact
+returns-in-Argument-clause-exact t c =
+    let e : inside_in c.args.levels (place_of c.args.nested) c.args.terminals.now ≡ argument_in (inside_in (c.args.levels - 1)) c.in-Argument.call c.args.terminals.now =
+    ap (λ n. inside_in c.args.levels (place_of n) c.args.terminals.now) c.in-Argument.is ∙ inside_some c.args.levels (argument c.in-Argument.call) c.args.terminals.now (omega arith) in
+    subst (λ f. Gives f c.argument.result c.argument.new.terminals) (sym e) c.argument.ensures.exact
