@@ -2,7 +2,7 @@
 //!
 //! Its one promise is that what `print` writes spells the statement again, where some text spells it and what is written
 //! is not too long for a text. It knows nothing of documents, of kinds that fit, or of what a statement means; the grammar
-//! itself is `sql_grammar`'s, whose calls are handed on here.
+//! itself is `sql_grammar`'s and its reading `sql_parser`'s, whose calls are handed on here.
 //! Read `specs/PrintingText.antt` first, then `specs/PrintingQuery.antt` and `specs/PrintingTerm.antt`.
 #![tactic(auto)]
 
@@ -20,6 +20,7 @@ mod print_tightness;
 pub use print_laws::what_is_printed_spells_the_statement;
 pub use print_statement::print;
 pub use sql_grammar::{Mark, Terminal, a_text_spells_one_statement, a_text_spells_what_is_read};
+pub use sql_parser::{ParseFault, parse};
 pub use sql_tree::{
     Addend, AggCall, Item, Join, JoinWay, Key, Ref, Select, Set, Statement, Table, Term,
 };
