@@ -1,5 +1,5 @@
 -- Columns that are noted, each once, and their places.
-use Rattle.std.proofs.Common.{◌≡◌, ℕ, zero, suc, ◌<◌, Bool, true, false, ◌||◌, List, [], ◌∷◌, ◌++◌, map, Some, option_map, if◌then◌else◌, slice_get, slice_set, get_or, ◌≤◌, ◌+◌, cond, Result, Ok, Err, OnOk, IfOk, None, Option, length, unwrap_or, arith, refl, sym, ap, ◌∙◌}
+use Rattle.std.proofs.Common.{◌≡◌, ℕ, zero, suc, ◌<◌, Bool, true, false, ◌||◌, List, [], ◌∷◌, ◌++◌, map, take, Some, option_map, if◌then◌else◌, slice_get, slice_set, get_or, ◌≤◌, ◌+◌, cond, Result, Ok, Err, OnOk, IfOk, None, Option, length, unwrap_or, arith, refl, sym, ap, ◌∙◌}
 use Rattle.std.specs.List.{list_any, position_from}
 use Rattle.std.specs.Borrow.{Bor}
 use Rattle.std.specs.Str.{bytes_eq}
@@ -11,6 +11,10 @@ use Rattle.term_rules.specs.Uses.{Use}
 use Rattle.resolved_terms.specs.declared.column.Column.{Column}
 use Rattle.resolved_terms.specs.Columns.{Read, same_column, with_column, with_column_at, column_at, column_used, noted, all_noted}
 use Rattle.resolved_terms.specs.SameColumns.{column_named, column_same}
+
+-- No columns.
+abbrev pub nothing : List ColRef
+nothing = []
 
 -- A column as it is read.
 abbrev pub read : Column → ColRef
@@ -108,3 +112,19 @@ on_ok (Err b) f h = h
 pub if_ok : {A B : Type 0} {P Q : A → Type 0} (r : Result A B) → ((a : A) → P a → Q a) → IfOk r P → IfOk r Q
 if_ok (Ok a) f h = f a h
 if_ok (Err b) f h = h
+
+nothing_next : {X : Type 0} (xs : List X) (n : ℕ) → n < length xs → map (λ (x : X). nothing) (take (suc n) xs) ≡ map (λ (x : X). nothing) (take n xs) ++ nothing ∷ []
+nothing_next [] n h = absurd (omega (arith, h))
+nothing_next (x ∷ xs) zero h = refl
+nothing_next (x ∷ xs) (suc n) h = ap (λ ys. nothing ∷ ys) (nothing_next xs n (omega (arith, h)))
+
+-- One more table of which nothing is read.
+pub nothing_more : {X : Type 0} (xs : List X) (n : ℕ) → n < length xs → map (λ (x : X). nothing) (take (n + 1) xs) ≡ map (λ (x : X). nothing) (take n xs) ++ nothing ∷ []
+nothing_more {X} xs n h = let next : n + 1 ≡ suc n = omega arith in ap (λ k. map (λ (x : X). nothing) (take k xs)) next ∙ nothing_next xs n h
+
+-- All tables.
+pub nothing_of_all : (xs : List (Bor (List ℕ))) (n : ℕ) → length xs ≤ n → map (λ (x : Bor (List ℕ)). nothing) (take n xs) ≡ map (λ (x : List ℕ). nothing) (map (λ (a : Bor (List ℕ)). a.now) xs)
+nothing_of_all [] zero h = refl
+nothing_of_all [] (suc n) h = refl
+nothing_of_all (x ∷ xs) zero h = absurd (omega (arith, h))
+nothing_of_all (x ∷ xs) (suc n) h = ap (λ ys. nothing ∷ ys) (nothing_of_all xs n (omega (arith, h)))

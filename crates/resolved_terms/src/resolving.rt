@@ -1,4 +1,4 @@
-ghost use Rattle.std.specs.Prelude.{◌≡◌, true, ◌&&◌, [], ◌∷◌, map, Option, Some, None, IfOk};
+ghost use Rattle.std.specs.Prelude.{◌≡◌, true, ◌&&◌, [], ◌∷◌, map, Option, Some, None, OnOk, IfOk};
 ghost use Rattle.std.specs.List.{flat_map, list_all};
 ghost use Rattle.doc_values.specs.declared.kind.Kind.{Kind as KindOf};
 ghost use Rattle.sql_tree.specs.declared.term.Term.TheVariants as term_form;
@@ -300,7 +300,7 @@ fn lone<'a>(
 ) -> Result<Expr, AllocError>
     requires lone { own_kind term.now ≡ None }
     ensures ok { IfOk result (λ e. IsResolved columns.old columns.new want term.now e) }
-    ensures own { (reader_of term.now).own ≡ None }
+    ensures own { OnOk result ((reader_of term.now).own ≡ None) }
     ensures numerals { IfOk result (λ e. has_numerals e ≡ true) }
 {
     match term {
