@@ -7,6 +7,7 @@ use Rattle.doc_values.specs.declared.kind.Kind.TheVariants as kind
 use Rattle.doc_values.specs.declared.col_ref.ColRef.{ColRef}
 use Rattle.doc_values.specs.declared.compare_op.CompareOp.{CompareOp}
 use Rattle.doc_values.specs.declared.compare_op.CompareOp.TheVariants as compare_op
+use Rattle.sql_tree.specs.declared.reference.Ref.{Ref}
 use Rattle.sql_tree.specs.declared.addend.Addend.{Addend as TermAddend}
 use Rattle.sql_tree.specs.declared.term.Term.{Term}
 use Rattle.sql_tree.specs.declared.term.Term.TheVariants as term

@@ -1,7 +1,9 @@
 -- Columns that are noted, each once, and their places.
-use Rattle.std.proofs.Common.{◌≡◌, ℕ, zero, suc, ◌<◌, Bool, true, false, ◌||◌, List, [], ◌∷◌, ◌++◌, map, Some, option_map, if◌then◌else◌, slice_get, slice_set, get_or, length, unwrap_or, arith, refl, sym, ap, ◌∙◌}
-use Rattle.std.specs.List.{list_any}
-use Rattle.std.proofs.lemmas.Option.{slice_get-map}
+use Rattle.std.proofs.Common.{◌≡◌, ℕ, zero, suc, ◌<◌, Bool, true, false, ◌||◌, List, [], ◌∷◌, ◌++◌, map, take, Some, option_map, if◌then◌else◌, slice_get, slice_set, get_or, ◌≤◌, ◌+◌, cond, Result, Ok, Err, OnOk, IfOk, None, Option, length, unwrap_or, arith, refl, sym, ap, ◌∙◌}
+use Rattle.std.specs.List.{list_any, position_from}
+use Rattle.std.specs.Borrow.{Bor}
+use Rattle.std.specs.Str.{bytes_eq}
+use Rattle.std.proofs.lemmas.Option.{slice_get-map, same_Some}
 use Rattle.indexmap.specs.IndexSet.{insert_key}
 use Rattle.doc_values.specs.declared.col_ref.ColRef.{ColRef}
 use Rattle.sql_eval.specs.Meaning.{table_of}
@@ -9,6 +11,10 @@ use Rattle.term_rules.specs.Uses.{Use}
 use Rattle.resolved_terms.specs.declared.column.Column.{Column}
 use Rattle.resolved_terms.specs.Columns.{Read, same_column, with_column, with_column_at, column_at, column_used, noted, all_noted}
 use Rattle.resolved_terms.specs.SameColumns.{column_named, column_same}
+
+-- No columns.
+abbrev pub nothing : List ColRef
+nothing = []
 
 -- A column as it is read.
 abbrev pub read : Column → ColRef
@@ -63,12 +69,62 @@ place_kept read [] table i c h = h
 place_kept read (u ∷ us) table i c h = place_kept (noted read u) us table i c (kept_at (unwrap_or (table_of read.scope u.ref.qualifier) 0) (column_used u) read.refs table i c h)
 
 -- The columns of the table at a place are exchanged for those with one more.
-pub set_at : (place : ℕ) (c : ColRef) (refs : List (List ColRef)) (columns : List ColRef) → place < length refs → columns ≡ with_column c (get_or refs place []) → slice_set refs place columns ≡ with_column_at place c refs
-set_at place c [] columns h is = absurd (omega (arith, h))
-set_at zero c (cs ∷ refs) columns h is = ap (λ x. x ∷ refs) is
-set_at (suc place) c (cs ∷ refs) columns h is = ap (λ x. cs ∷ x) (set_at place c refs columns (omega (arith, h)) is)
+pub set_at : (place : ℕ) (c : ColRef) (refs : List (List ColRef)) (columns other : List ColRef) → place < length refs → columns ≡ with_column c (get_or refs place other) → slice_set refs place columns ≡ with_column_at place c refs
+set_at place c [] columns other h is = absurd (omega (arith, h))
+set_at zero c (cs ∷ refs) columns other h is = ap (λ x. x ∷ refs) is
+set_at (suc place) c (cs ∷ refs) columns other h is = ap (λ x. cs ∷ x) (set_at place c refs columns other (omega (arith, h)) is)
 
 pub found_at : (place i : ℕ) (refs : List (List ColRef)) (columns : List ColRef) (c : ColRef) → place < length refs → slice_get columns i ≡ Some c → column_at (slice_set refs place columns) place i ≡ Some c
 found_at place i [] columns c h is = absurd (omega (arith, h))
 found_at zero i (cs ∷ refs) columns c h is = is
 found_at (suc place) i (cs ∷ refs) columns c h is = found_at place i refs columns c (omega (arith, h)) is
+
+found_at_least : (test : List ℕ → Bool) (n k : ℕ) (xs : List (List ℕ)) → position_from test n xs ≡ Some k → k < n + length xs
+found_at_least test n k [] h = absurd (cc)
+found_at_least test n k (x ∷ xs) h = by (test x) (position_from test (n + 1) xs) (found_at_least test (n + 1) k xs) h
+  where
+    by : (b : Bool) (o : Option ℕ) → (o ≡ Some k → k < (n + 1) + length xs) → cond b (Some n) o ≡ Some k → k < n + suc (length xs)
+    by true o up h = let same : n ≡ k = same_Some n k h in omega (arith, same)
+    by false o up h = let less = up h in omega (arith, less)
+
+-- The table of a reference is one of those in scope.
+pub table_inside : (scope : List (List ℕ)) (q : Option (List ℕ)) → 1 ≤ length scope → unwrap_or (table_of scope q) 0 < length scope
+table_inside scope None h = omega (arith, h)
+table_inside scope (Some alias) h = by (position_from (bytes_eq alias) 0 scope) (λ k e. found_at_least (bytes_eq alias) 0 k scope e)
+  where
+    by : (o : Option ℕ) → ((k : ℕ) → o ≡ Some k → k < 0 + length scope) → unwrap_or o 0 < length scope
+    by None up = omega (arith, h)
+    by (Some k) up = let less = up k refl in omega (arith, less)
+
+pub length_mapped : (xs : List (Bor (List ℕ))) → length (map (λ (a : Bor (List ℕ)). a.now) xs) ≡ length xs
+length_mapped [] = refl
+length_mapped (x ∷ xs) = ap suc (length_mapped xs)
+
+pub set_length : (place : ℕ) (refs : List (List ColRef)) (columns : List ColRef) → length (slice_set refs place columns) ≡ length refs
+set_length place [] columns = refl
+set_length zero (cs ∷ refs) columns = refl
+set_length (suc place) (cs ∷ refs) columns = ap suc (set_length place refs columns)
+
+pub on_ok : {A B : Type 0} {P Q : Type 0} (r : Result A B) → (P → Q) → OnOk r P → OnOk r Q
+on_ok (Ok a) f h = f h
+on_ok (Err b) f h = h
+
+pub if_ok : {A B : Type 0} {P Q : A → Type 0} (r : Result A B) → ((a : A) → P a → Q a) → IfOk r P → IfOk r Q
+if_ok (Ok a) f h = f a h
+if_ok (Err b) f h = h
+
+nothing_next : {X : Type 0} (xs : List X) (n : ℕ) → n < length xs → map (λ (x : X). nothing) (take (suc n) xs) ≡ map (λ (x : X). nothing) (take n xs) ++ nothing ∷ []
+nothing_next [] n h = absurd (omega (arith, h))
+nothing_next (x ∷ xs) zero h = refl
+nothing_next (x ∷ xs) (suc n) h = ap (λ ys. nothing ∷ ys) (nothing_next xs n (omega (arith, h)))
+
+-- One more table of which nothing is read.
+pub nothing_more : {X : Type 0} (xs : List X) (n : ℕ) → n < length xs → map (λ (x : X). nothing) (take (n + 1) xs) ≡ map (λ (x : X). nothing) (take n xs) ++ nothing ∷ []
+nothing_more {X} xs n h = let next : n + 1 ≡ suc n = omega arith in ap (λ k. map (λ (x : X). nothing) (take k xs)) next ∙ nothing_next xs n h
+
+-- All tables.
+pub nothing_of_all : (xs : List (Bor (List ℕ))) (n : ℕ) → length xs ≤ n → map (λ (x : Bor (List ℕ)). nothing) (take n xs) ≡ map (λ (x : List ℕ). nothing) (map (λ (a : Bor (List ℕ)). a.now) xs)
+nothing_of_all [] zero h = refl
+nothing_of_all [] (suc n) h = refl
+nothing_of_all (x ∷ xs) zero h = absurd (omega (arith, h))
+nothing_of_all (x ∷ xs) (suc n) h = ap (λ ys. nothing ∷ ys) (nothing_of_all xs n (omega (arith, h)))

@@ -2,6 +2,7 @@
 use Rattle.std.proofs.Common.{◌≡◌, ℕ, Bool, List, map, sym, ap, ◌∙◌}
 use Rattle.doc_values.specs.declared.kind.Kind.{Kind}
 use Rattle.doc_values.specs.declared.compare_op.CompareOp.{CompareOp}
+use Rattle.sql_tree.specs.declared.agg_call.AggCall.{AggCall}
 use Rattle.sql_eval.specs.declared.slot.Slot.{Slot}
 use Rattle.sql_eval.specs.declared.addend.Addend.{Addend}
 use Rattle.sql_eval.specs.declared.expr.Expr.{Expr}
@@ -63,3 +64,12 @@ module _ {A B : Type 0} (step : Expr-F A B → A) (join : Addend-F A B → B) wh
 
   pub expr-Minus : (t : Expr) → folded (expr.Minus t) ≡ step (Expr-F.Minus (folded t))
   expr-Minus t = ap folded (sym (expr.rolls-Minus t)) ∙ fold-roll-Expr A B step join (Expr-F.Minus t)
+
+  pub expr-AnyOf : (e : Expr) (slot : Slot) → folded (expr.AnyOf e slot) ≡ step (Expr-F.AnyOf (folded e) slot)
+  expr-AnyOf e slot = ap folded (sym (expr.rolls-AnyOf e slot)) ∙ fold-roll-Expr A B step join (Expr-F.AnyOf e slot)
+
+  pub expr-CountAll : folded expr.CountAll ≡ step Expr-F.CountAll
+  expr-CountAll = ap folded (sym expr.rolls-CountAll) ∙ fold-roll-Expr A B step join Expr-F.CountAll
+
+  pub expr-Aggregate : (call : AggCall) (e : Expr) → folded (expr.Aggregate call e) ≡ step (Expr-F.Aggregate call (folded e))
+  expr-Aggregate call e = ap folded (sym (expr.rolls-Aggregate call e)) ∙ fold-roll-Expr A B step join (Expr-F.Aggregate call e)

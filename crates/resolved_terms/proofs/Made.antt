@@ -1,5 +1,5 @@
 -- What a term comes to, from what its parts come to: one lemma for each form.
-use Rattle.std.proofs.Common.{◌≡◌, ℕ, Bool, true, List, [], ◌∷◌, ◌++◌, map, Option, Some, None, slice_get, unwrap_or, is_some, option_and_then, refl, sym, ap, ◌∙◌}
+use Rattle.std.proofs.Common.{◌≡◌, ℕ, Bool, true, List, [], ◌∷◌, ◌++◌, map, Option, Some, None, slice_get, unwrap_or, is_some, option_and_then, ◌&&◌, false, refl, sym, ap, subst, ◌∙◌}
 use Rattle.std.specs.List.{flat_map}
 use Rattle.doc_values.specs.declared.kind.Kind.{Kind}
 use Rattle.doc_values.specs.declared.kind.Kind.TheVariants as kind
@@ -14,12 +14,14 @@ use Rattle.sql_eval.specs.declared.addend.Addend.{Addend}
 use Rattle.sql_eval.specs.declared.expr.Expr.{Expr}
 use Rattle.sql_eval.specs.declared.expr.Expr.TheVariants as expr
 use Rattle.sql_tree.specs.declared.agg_call.AggCall.{AggCall}
-use Rattle.sql_eval.specs.Aggregates.{wanted_inside}
-use Rattle.sql_eval.specs.Kinds.{own_kind, wanted_beside}
+use Rattle.sql_tree.specs.declared.agg_call.AggCall.TheVariants as agg_call
+use Rattle.sql_eval.specs.Aggregates.{aggregate_kind, wanted_inside}
+use Rattle.sql_eval.specs.Kinds.{own_step, own_kind, wanted_beside}
 use Rattle.sql_eval.specs.Resolves as resolves
 use Rattle.sql_eval.specs.Resolves.{Resolves, AllResolve, AddendsResolve, IsReadAt, beside, denied_if, among_written, between_written}
 use Rattle.sql_eval.specs.Meaning.{table_of}
 use Rattle.term_rules.specs.Names.{refs_step}
+use Rattle.term_rules.specs.Written.{written_step, is_written}
 use Rattle.term_rules.specs.Uses.{Use, Reader, reader_step, reader_addend, reader_of, addend_uses, all_uses}
 use Rattle.resolved_terms.specs.Columns.{Read, column_at, column_used, noted, all_noted}
 use Rattle.resolved_terms.specs.Steps.{IsPlaceOf, Comes, IsResolved, AreResolved, AddendsAreResolved}
@@ -129,3 +131,44 @@ one_noted c d w r slot is at = record { noted = is; holds = λ later test named 
 pub any_of_made : {c d x : Read} (w : Option Kind) (t : Term) (e : Expr) (r : Ref) (slot : Slot) → IsResolved c d None t e → x ≡ noted d (record { ref = r; want = Some kind.Array }) → IsPlaceOf x r (Some kind.Array) slot → IsResolved c x w (term.AnyOf t r) (expr.AnyOf e slot)
 any_of_made {d = d} {x = x} w t e r slot resolved is at =
     said_so (and_then resolved (one_noted d x (Some kind.Array) r slot is at)) (ap (uses_at w) (terms.term-AnyOf reader_step reader_addend t r)) (λ test b. sym (terms.term-AnyOf (refs_step test) (λ a. a.term) t r) ∙ b) (λ scope refs both. resolves.any_of both.0 both.1)
+
+lone_inside : (call : AggCall) (own w : Option Kind) → aggregate_kind call own ≡ None → wanted_inside call w ≡ w
+lone_inside agg_call.Count own w h = cc
+lone_inside agg_call.Sum own w h = cc
+lone_inside agg_call.Min own w h = refl
+lone_inside agg_call.Max own w h = refl
+
+lone_argument : (call : AggCall) (own : Option Kind) → aggregate_kind call own ≡ None → own ≡ None
+lone_argument agg_call.Count own h = cc
+lone_argument agg_call.Sum own h = cc
+lone_argument agg_call.Min own h = h
+lone_argument agg_call.Max own h = h
+
+lone_again : (call : AggCall) (own : Option Kind) → aggregate_kind call own ≡ None → aggregate_kind call None ≡ None
+lone_again agg_call.Count own h = cc
+lone_again agg_call.Sum own h = cc
+lone_again agg_call.Min own h = refl
+lone_again agg_call.Max own h = refl
+
+own-Aggregate : (call : AggCall) (t : Term) → own_kind (term.Aggregate call t) ≡ aggregate_kind call (own_kind t)
+own-Aggregate call t = terms.term-Aggregate (own_step (λ k. k)) (λ _. tt) call t
+
+-- The argument of an aggregate that has no kind by itself has none.
+pub argument_lone : (u : Term) (call : AggCall) (t : Term) → u ≡ term.Aggregate call t → own_kind u ≡ None → own_kind t ≡ None
+argument_lone u call t is h = lone_argument call (own_kind t) (sym (own-Aggregate call t) ∙ ap own_kind (sym is) ∙ h)
+
+pub reader_lone : (u : Term) (call : AggCall) (t : Term) → u ≡ term.Aggregate call t → own_kind u ≡ None → (reader_of t).own ≡ None → (reader_of u).own ≡ None
+reader_lone u call t is h none =
+    ap (λ v. (reader_of v).own) is ∙ ap (λ (p : Reader). p.own) (terms.term-Aggregate reader_step reader_addend call t) ∙ ap (aggregate_kind call) none
+    ∙ lone_again call (own_kind t) (sym (own-Aggregate call t) ∙ ap own_kind (sym is) ∙ h)
+
+pub lone_aggregate_made : {c d : Read} (w : Option Kind) (call : AggCall) (t : Term) (e : Expr) → own_kind (term.Aggregate call t) ≡ None → IsResolved c d w t e → IsResolved c d w (term.Aggregate call t) (expr.Aggregate call e)
+lone_aggregate_made {c} {d} w call t e h r =
+    aggregate_made w call t e (subst (λ v. IsResolved c d v t e) (sym (lone_inside call (own_kind t) w (sym (own-Aggregate call t) ∙ h))) r)
+
+pub written-high : (u t low high : Term) (negated : Bool) → u ≡ term.Between t low high negated → is_written u ≡ true → is_written high ≡ true
+written-high u t low high negated is h = last (is_written t && is_written low) (is_written high) (sym (terms.term-Between written_step (λ a. a.term) t low high negated) ∙ ap is_written (sym is) ∙ h)
+  where
+    last : (a b : Bool) → (a && b) ≡ true → b ≡ true
+    last true b h = h
+    last false b h = cc

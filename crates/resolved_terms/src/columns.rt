@@ -35,10 +35,10 @@ impl<'a> Columns<'a> {
     /// None so far, of the tables with these aliases.
     pub fn new(alloc: Global, scope: Vec<&'a str>) -> Result<Columns<'a>, AllocError>
         requires { 1 ≤ length scope.items }
-        ensures ok { IfOk result (λ columns. columns ≡ nothing_read (map (λ a. a.now) scope.items)) }
+        ensures ok { IfOk result (λ columns. columns ≡ nothing_read (map (λ a. a.now) scope.entry.items)) }
     {
         let mut tables = Vec::new(alloc);
-        for _ in &scope {
+        for _alias in &scope {
             tables.push(TableColumns::new(alloc))?;
         }
         Ok(Columns { scope, tables })
@@ -88,8 +88,9 @@ fn note_at<'a>(
     column: Column<'a>,
 ) -> Result<u32, AllocError>
     requires { place < length tables.old.items }
-    ensures noted { OnOk result (tables.new.items ≡ with_column_at place (column_named column.name.now column.want) tables.old.items) }
-    ensures place { IfOk result (λ at. column_at tables.new.items place at ≡ Some (column_named column.name.now column.want)) }
+    ensures kept { length tables.new.items ≡ length tables.old.items }
+    ensures noted { OnOk result (tables.new.items ≡ with_column_at place (column_named column.entry.name.now column.entry.want) tables.old.items) }
+    ensures place { IfOk result (λ at. column_at tables.new.items place at ≡ Some (column_named column.entry.name.now column.entry.want)) }
 {
     tables[place].note(column)
 }

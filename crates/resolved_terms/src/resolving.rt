@@ -1,4 +1,4 @@
-ghost use Rattle.std.specs.Prelude.{◌≡◌, true, ◌&&◌, [], ◌∷◌, map, Option, Some, None, IfOk};
+ghost use Rattle.std.specs.Prelude.{◌≡◌, true, ◌&&◌, [], ◌∷◌, map, Option, Some, None, OnOk, IfOk};
 ghost use Rattle.std.specs.List.{flat_map, list_all};
 ghost use Rattle.doc_values.specs.declared.kind.Kind.{Kind as KindOf};
 ghost use Rattle.sql_tree.specs.declared.term.Term.TheVariants as term_form;
@@ -202,7 +202,7 @@ fn compared<'a>(
     ensures ok { IfOk result (λ e. IsResolved columns.old columns.new (Some Kind.Bool) (term_form.Compare op arg.now term.now) e) }
     ensures numerals { IfOk result (λ e. has_numerals e ≡ true) }
 {
-    let left = lone(columns, arg, own_kind(term))?;
+    let left = lone(alloc, columns, arg, own_kind(term))?;
     let right = boxed(alloc, columns, term, None)?;
     let left = Boxed::new(alloc, left)?;
     Ok(Expr::Compare { op, left, right })
@@ -291,20 +291,28 @@ fn all_beside<'a>(
 }
 
 // The same of a term that has no kind by itself.
+#[cycle(lone)]
 fn lone<'a>(
+    alloc: Global,
     columns: &mut Columns<'a>,
     term: &'a Term,
     want: Option<Kind>,
 ) -> Result<Expr, AllocError>
-    requires written { is_written term.now ≡ true }
     requires lone { own_kind term.now ≡ None }
     ensures ok { IfOk result (λ e. IsResolved columns.old columns.new want term.now e) }
-    ensures own { (reader_of term.now).own ≡ None }
+    ensures own { OnOk result ((reader_of term.now).own ≡ None) }
     ensures numerals { IfOk result (λ e. has_numerals e ≡ true) }
 {
     match term {
         Term::Column(column) => Ok(Expr::Column(columns.note(column, want)?)),
         Term::Null => Ok(Expr::Null),
+        Term::Aggregate { call, arg } => {
+            let arg = lone(alloc, columns, arg.get(), want)?;
+            Ok(Expr::Aggregate {
+                call: *call,
+                arg: Boxed::new(alloc, arg)?,
+            })
+        }
         _ => unreachable!(),
     }
 }

@@ -36,8 +36,8 @@ impl<'a> TableColumns<'a> {
 
     // Notes a column, and gives its place.
     pub(crate) fn note(&mut self, column: Column<'a>) -> Result<u32, AllocError>
-        ensures noted { OnOk result (self.new ≡ with_column (column_named column.name.now column.want) self.old) }
-        ensures place { IfOk result (λ place. slice_get self.new place ≡ Some (column_named column.name.now column.want)) }
+        ensures noted { OnOk result (self.new ≡ with_column (column_named column.entry.name.now column.entry.want) self.old) }
+        ensures place { IfOk result (λ place. slice_get self.new place ≡ Some (column_named column.entry.name.now column.entry.want)) }
     {
         let (place, _) = self.set.insert_full(column)?;
         let Ok(place) = u32::try_from(place) else {

@@ -2,6 +2,7 @@
 use Rattle.std.proofs.Common.{◌≡◌, ℕ, Bool, List, map, sym, ap, ◌∙◌}
 use Rattle.doc_values.specs.declared.kind.Kind.{Kind}
 use Rattle.doc_values.specs.declared.compare_op.CompareOp.{CompareOp}
+use Rattle.sql_tree.specs.declared.agg_call.AggCall.{AggCall}
 use Rattle.sql_tree.specs.declared.reference.Ref.{Ref}
 use Rattle.sql_tree.specs.declared.addend.Addend.{Addend}
 use Rattle.sql_tree.specs.declared.term.Term.{Term}
@@ -63,3 +64,12 @@ module _ {A B : Type 0} (step : Term-F A B → A) (join : Addend-F A B → B) wh
 
   pub term-Minus : (t : Term) → folded (term.Minus t) ≡ step (Term-F.Minus (folded t))
   term-Minus t = ap folded (sym (term.rolls-Minus t)) ∙ fold-roll-Term A B step join (Term-F.Minus t)
+
+  pub term-AnyOf : (t : Term) (r : Ref) → folded (term.AnyOf t r) ≡ step (Term-F.AnyOf (folded t) r)
+  term-AnyOf t r = ap folded (sym (term.rolls-AnyOf t r)) ∙ fold-roll-Term A B step join (Term-F.AnyOf t r)
+
+  pub term-CountAll : folded term.CountAll ≡ step Term-F.CountAll
+  term-CountAll = ap folded (sym term.rolls-CountAll) ∙ fold-roll-Term A B step join Term-F.CountAll
+
+  pub term-Aggregate : (call : AggCall) (t : Term) → folded (term.Aggregate call t) ≡ step (Term-F.Aggregate call (folded t))
+  term-Aggregate call t = ap folded (sym (term.rolls-Aggregate call t)) ∙ fold-roll-Term A B step join (Term-F.Aggregate call t)

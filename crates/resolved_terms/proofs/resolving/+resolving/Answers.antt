@@ -5,11 +5,12 @@ use Rattle.doc_values.specs.declared.compare_op.CompareOp.TheVariants as compare
 use Rattle.sql_tree.specs.declared.term.Term.TheVariants as term
 use Rattle.sql_eval.specs.declared.expr.Expr.TheVariants as expr
 use Rattle.sql_eval.specs.Resolves.{beside}
+use Rattle.sql_eval.specs.Aggregates.{wanted_inside}
 use Rattle.sql_eval.specs.Kinds.{own_kind, wanted_beside}
 use Rattle.term_rules.specs.Uses.{reader_of, uses_beside}
 use Rattle.resolved_terms.specs.Steps.{IsResolved, denied_expr, has_numerals, has_numerals_in}
 use Rattle.term_rules.specs.Written.{is_written, is_written_in}
-use Rattle.resolved_terms.proofs.Made.{number_made, text_made, bool_made, null_made, column_made, wanted_made, sum_made, product_made, minus_made, or_made, and_made, not_made, compare_made, is_null_made, like_made}
+use Rattle.resolved_terms.proofs.Made.{number_made, text_made, bool_made, null_made, column_made, wanted_made, sum_made, product_made, minus_made, or_made, and_made, not_made, compare_made, is_null_made, like_made, count_all_made, aggregate_made, any_of_made, written-high}
 use Rattle.resolved_terms.proofs.Chains.{next, none_left, all_behind, all_left, member_numerals, ahead_goes, ahead_ends, addends_go, addends_end, among_made, among_out_made, between_made, between_out_made, lone_compared, of_term, where_wanted, of_terms, of_addends, of_compare, beside_equal, if_ok}
 use Rattle.resolved_terms.proofs.resolving.+resolving.Goals as goal
 
@@ -300,3 +301,32 @@ test-returns-in_ok-copy-in-Like-clause-ok t c want =
     let made = of_term before after want (expr.Like e pattern negated) c.args.term.now (term.Like c.in-Like.arg pattern negated) c.in-Like.is
     (like_made want c.in-Like.arg e pattern negated (of_term before after (Some kind.Text) e c.in-Like.arg c.get-in-Like.result.now (sym c.get-in-Like.ensures) c.in_ok-boxed-in-Like.ensures.ok)) in
     subst (λ s. IsResolved before after want c.args.term.now (expr.Like e s negated)) (sym c.in_ok-copy-in-Like.ensures.ok) made
+
+pub resolve-returns-in-CountAll-clause-ok : goal.resolve-returns-in-CountAll-clause-ok
+resolve-returns-in-CountAll-clause-ok t c = let now = c.args.columns.now in of_term now now c.args.want expr.CountAll c.args.term.now term.CountAll c.in-CountAll.is (count_all_made now c.args.want)
+
+pub resolve-returns-in_ok-boxed-in-Aggregate-clause-ok : goal.resolve-returns-in_ok-boxed-in-Aggregate-clause-ok
+resolve-returns-in_ok-boxed-in-Aggregate-clause-ok t c =
+    let before = c.args.columns.now in
+    let after = c.boxed-in-Aggregate.new.columns in
+    let e = c.in_ok-boxed-in-Aggregate.field-0 in
+    let call = c.in-Aggregate.call in
+    let arg = c.in-Aggregate.arg in
+    let inside = where_wanted before after arg e c.wanted_inside.result (wanted_inside call c.args.want) c.wanted_inside.ensures.exact (of_term before after c.wanted_inside.result e arg c.get-in-Aggregate.result.now (sym c.get-in-Aggregate.ensures) c.in_ok-boxed-in-Aggregate.ensures.ok) in
+    of_term before after c.args.want (expr.Aggregate call e) c.args.term.now (term.Aggregate call arg) c.in-Aggregate.is (aggregate_made c.args.want call arg e inside)
+
+pub test-returns-in_ok-note-in-AnyOf-clause-ok : goal.test-returns-in_ok-note-in-AnyOf-clause-ok
+test-returns-in_ok-note-in-AnyOf-clause-ok t c want =
+    let before = c.args.columns.now in
+    let between = c.boxed-in-AnyOf.new.columns in
+    let after = c.note.new.self in
+    let e = c.in_ok-boxed-in-AnyOf.field-0 in
+    let arg = c.in-AnyOf.arg in
+    let slot = c.in_ok-note-in-AnyOf.field-0 in
+    of_term before after want (expr.AnyOf e slot) c.args.term.now (term.AnyOf arg c.in-AnyOf.column) c.in-AnyOf.is
+    (any_of_made want arg e c.in-AnyOf.column slot (of_term before between None e arg c.get-in-AnyOf.result.now (sym c.get-in-AnyOf.ensures) c.in_ok-boxed-in-AnyOf.ensures.ok) c.in_ok-note-in-AnyOf.ensures.noted c.in_ok-note-in-AnyOf.ensures.place)
+
+pub between-boxed_beside-requires-2 : goal.between-boxed_beside-requires-2
+between-boxed_beside-requires-2 t c =
+    let high = written-high c.args.term.now c.in-Between.arg c.in-Between.low c.in-Between.high c.in-Between.negated c.in-Between.is c.requires.written in
+    record { written = ap is_written c.get-4.ensures ∙ high }

@@ -1,17 +1,26 @@
-use Rattle.std.proofs.Common.{map, slice_get, refl, ap, ◌∙◌}
-use Rattle.resolved_terms.specs.SameColumns.{column_named}
-use Rattle.term_rules.specs.Uses.{Use, noted}
-use Rattle.resolved_terms.proofs.ColumnsNoted.{read, noted_key, placed_key}
+use Rattle.std.proofs.Common.{◌≡◌, ◌≤◌, ℕ, List, map, length, Option, unwrap_or, arith, ap, ◌∙◌}
+use Rattle.std.specs.Borrow.{Bor}
+use Rattle.sql_eval.specs.Meaning.{table_of}
+use Rattle.resolved_terms.proofs.ColumnsNoted.{table_inside, length_mapped}
 use Rattle.resolved_terms.proofs.columns.Columns.note.Goals as goal
 
-pub returns-clause-noted : goal.returns-clause-noted
-returns-clause-noted c =
-    let u : Use = record { ref = c.args.reference.now; want = c.args.want } in
-    ap (map read) c.in_ok-place.ensures.keys ∙ noted_key c.self.inside.set.keys _ u refl ∙ ap (λ cs. noted cs u) c.self.view_is
+pub note_at-requires : goal.note_at-requires
+note_at-requires c =
+    let q = c.args.reference.now.qualifier in
+    let items = c.self.inside.scope.items in
+    let scope = map (λ (a : Bor (List ℕ)). a.now) items in
+    let found : c.unwrap_or-place.result ≡ unwrap_or (table_of scope q) 0 =
+    c.unwrap_or-place.ensures ∙ ap (λ (o : Option ℕ). unwrap_or o 0) (c.table_of.ensures.exact ∙ ap (λ (xs : List (Bor (List ℕ))). table_of (map (λ (a : Bor (List ℕ)). a.now) xs) q) c.deref.ensures.value) in
+    let long = length_mapped items in
+    let least : 1 ≤ length scope = omega (arith, long, c.self.invariant.0) in
+    let inside = table_inside scope q least in
+    omega (arith, found, inside, long, c.self.invariant.1)
 
-pub returns-clause-place : goal.returns-clause-place
-returns-clause-place c =
-    let keys = c.insert_full.new.self.keys in
-    let wanted = column_named c.args.reference.now.name c.args.want in
-    let stored = c.in_ok-place.ensures.stored in
-    record { table = refl; column = ap (slice_get (map read keys)) c.in-Ok.ensures.1 ∙ placed_key keys c.in_ok-place.place wanted stored.0 stored.1 stored.2 }
+pub invariant_of-self : goal.invariant_of-self
+invariant_of-self c = (c.self.invariant.0, c.note_at.ensures.kept ∙ c.self.invariant.1)
+
+pub invariant_of-self-in_default : goal.invariant_of-self-in_default
+invariant_of-self-in_default c = (c.self.invariant.0, c.note_at.ensures.kept ∙ c.self.invariant.1)
+
+pub invariant_of-self-2 : goal.invariant_of-self-2
+invariant_of-self-2 c = (c.self.invariant.0, c.note_at.ensures.kept ∙ c.self.invariant.1)

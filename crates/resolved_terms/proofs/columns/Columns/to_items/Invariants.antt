@@ -1,6 +1,5 @@
-use Rattle.std.specs.Prelude.{◌≡◌, map, take}
-use Rattle.resolved_terms.specs.SameColumns.{column_named}
+use Rattle.std.specs.Prelude.{◌≡◌, take}
 use Rattle.resolved_terms.proofs.columns.Columns.to_items.Given as goal
 
-abbrev pub invariant-loop-column : goal.invariant-loop-column
-invariant-loop-column l = l.columns ≡ map (λ k. column_named k.name.now k.want) (take l.column-index l.column-items)
+abbrev pub invariant-loop-table : goal.invariant-loop-table
+invariant-loop-table l = l.refs ≡ take l.table-index l.self.refs
