@@ -1,11 +1,13 @@
-ghost use Rattle.std.specs.Prelude.{◌≡◌, ◌<◌, [], length, get_or, option_map};
+ghost use Rattle.std.specs.Prelude.{◌≡◌, ◌<◌, [], length, get_or, option_and_then, option_copied, option_map};
 ghost use Rattle.row_columns.specs.Lent.{owned};
-ghost use Rattle.row_columns.specs.Placed.{tuples_of};
+ghost use Rattle.row_columns.specs.Placed.{tuple_at, tuples_of};
+ghost use Rattle.row_columns.specs.Sides.{side_at};
 ghost use Rattle.sql_eval.specs.Groups.{first_of, alone};
 ghost use Rattle.sql_eval.specs.Resolved.{cell_at};
 
 use crate::slot::Slot;
-use row_columns::{Place, Sides, TableRows, ValueRef};
+use doc_values::Doc;
+use row_columns::{Place, Sides, TableRows, Tuples, ValueRef};
 use std::marker::Model;
 use std::slice;
 
@@ -39,6 +41,22 @@ impl<'a> Group<'a> {
         }
     }
 
+    /// The group of one tuple of rows.
+    pub fn alone(tables: &'a [TableRows], place: &'a Place) -> Group<'a>
+        ensures exact { result ≡ record { tables = length (tuple_at tables.now place.now); tuples = alone (tuple_at tables.now place.now) } }
+    {
+        Group::new(tables.len(), tables, slice::from_ref(place))
+    }
+
+    /// The group of one of some tuples.
+    pub fn at(tuples: &'a Tuples, index: usize) -> Group<'a>
+        requires { index < length tuples.now }
+        ensures exact { result ≡ record { tables = length (get_or tuples.now index []); tuples = alone (get_or tuples.now index []) } }
+    {
+        let (tables, places) = tuples.parts();
+        Group::alone(tables, &places[index])
+    }
+
     /// How many tuples there are.
     pub fn len(&self) -> usize
         ensures exact { result ≡ length self.now.tuples }
@@ -66,5 +84,12 @@ impl<'a> Group<'a> {
     {
         let place = self.places.first()?;
         Sides::new(self.tables, *place).cell(slot.table, slot.column)
+    }
+    /// The document of the first table's row in the first tuple, where whole documents are asked for.
+    pub fn doc(&self) -> Option<&'a Doc>
+        ensures exact { option_copied result ≡ option_and_then (λ row. row.doc) (side_at (first_of self.now.tuples) 0) }
+    {
+        let place = self.places.first()?;
+        Sides::new(self.tables, *place).doc()
     }
 }

@@ -1,8 +1,9 @@
-ghost use Rattle.std.specs.Prelude.{◌≡◌, ◌≤◌, All, true, map, sum, option_map, neg_ℤ, IfOk, IfSome, length};
+ghost use Rattle.std.specs.Prelude.{◌≡◌, ◌≤◌, All, true, map, sum, option_map, neg_ℤ, IfOk, IfSome, OnErr, length};
 ghost use Rattle.sql_eval.specs.Truth.{any_of, all_of, truth_of};
 ghost use Rattle.sql_eval.specs.Operators.{number_of, sum_of, product_of, comparison};
 ghost use Rattle.sql_eval.specs.Aggregates.{aggregate, chosen, count_of, put_from, total_of};
 ghost use Rattle.row_columns.specs.Lent.{owned};
+ghost use Rattle.sql_eval.specs.Memory.{reads_arrays, some_reads, some_addend_reads};
 ghost use Rattle.sql_eval.specs.Resolved.{gives, of_each, value_over, added_over};
 ghost use Rattle.sql_eval.specs.Widths.{width_of, width_in, are_narrow, addends_are_narrow, aggregate_bits, bits_of, sum_bits, IsFew, IsStorableTuple};
 ghost use Rattle.sql_eval.specs.Within.{IsWithin, IsNumberWithin};
@@ -31,6 +32,7 @@ pub fn value<'a>(
     requires stored { All IsStorableTuple group.now.tuples }
     ensures ok { IfOk result (λ given. option_map owned given ≡ value_over group.now.tuples expr.now) }
     ensures within { IfOk result (λ given. IfSome given (IsWithin (width_of group.now.tables expr.now).bits)) }
+    ensures memory { OnErr result (reads_arrays expr.now ≡ true) }
 {
     match expr {
         Expr::Number(n) => Ok(Some(ValueRef::Int(i128::from(*n)))),
@@ -67,6 +69,7 @@ pub(crate) fn truth_over<'a>(
     requires few { IsFew group.now.tables group.now.tuples }
     requires stored { All IsStorableTuple group.now.tuples }
     ensures ok { IfOk result (λ truth. truth ≡ truth_of (value_over group.now.tuples expr.now)) }
+    ensures memory { OnErr result (reads_arrays expr.now ≡ true) }
 {
     match expr {
         Expr::Bool(b) => Ok(Truth::of(Some(*b))),
@@ -128,6 +131,7 @@ fn any<'a>(alloc: Global, members: &'a [Expr], group: &Group<'a>) -> Result<Trut
     requires few { IsFew group.now.tables group.now.tuples }
     requires stored { All IsStorableTuple group.now.tuples }
     ensures ok { IfOk result (λ truth. truth ≡ any_of (map (λ v. truth_of (v group.now.tuples)) (map gives members.now))) }
+    ensures memory { OnErr result (some_reads members.now ≡ true) }
 {
     let mut truth = Truth::False;
     for member in members {
@@ -146,6 +150,7 @@ fn all<'a>(alloc: Global, members: &'a [Expr], group: &Group<'a>) -> Result<Trut
     requires few { IsFew group.now.tables group.now.tuples }
     requires stored { All IsStorableTuple group.now.tuples }
     ensures ok { IfOk result (λ truth. truth ≡ all_of (map (λ v. truth_of (v group.now.tuples)) (map gives members.now))) }
+    ensures memory { OnErr result (some_reads members.now ≡ true) }
 {
     let mut truth = Truth::True;
     for member in members {
@@ -169,6 +174,7 @@ fn among<'a>(
     requires few { IsFew group.now.tables group.now.tuples }
     requires stored { All IsStorableTuple group.now.tuples }
     ensures ok { IfOk result (λ truth. truth ≡ any_of (map (λ w. comparison CompareOp.Eq (option_map owned arg.entry) (w group.now.tuples)) (map gives members.now))) }
+    ensures memory { OnErr result (some_reads members.now ≡ true) }
 {
     let mut truth = Truth::False;
     for member in members {
@@ -192,6 +198,7 @@ fn number<'a>(
     requires stored { All IsStorableTuple group.now.tuples }
     ensures ok { IfOk result (λ n. n ≡ number_of (value_over group.now.tuples expr.now)) }
     ensures within { IfOk result (λ n. IfSome n (IsNumberWithin (width_of group.now.tables expr.now).bits)) }
+    ensures memory { OnErr result (reads_arrays expr.now ≡ true) }
 {
     match value(alloc, expr, group)? {
         Some(ValueRef::Int(n)) => Ok(Some(n)),
@@ -212,6 +219,7 @@ fn sum<'a>(
     requires stored { All IsStorableTuple group.now.tuples }
     ensures ok { IfOk result (λ total. total ≡ sum_of (map (added_over group.now.tuples) addends.now)) }
     ensures within { IfOk result (λ total. IfSome total (IsNumberWithin (sum_bits (bits_of (map (width_in group.now.tables) addends.now))))) }
+    ensures memory { OnErr result (some_addend_reads addends.now ≡ true) }
 {
     let mut total = 0;
     for addend in addends {
@@ -236,6 +244,7 @@ fn product<'a>(
     requires stored { All IsStorableTuple group.now.tuples }
     ensures ok { IfOk result (λ total. total ≡ product_of (map (λ v. number_of (v group.now.tuples)) (map gives members.now))) }
     ensures within { IfOk result (λ total. IfSome total (IsNumberWithin (sum (bits_of (map (width_of group.now.tables) members.now))))) }
+    ensures memory { OnErr result (some_reads members.now ≡ true) }
 {
     let mut total = 1;
     for member in members {
@@ -261,6 +270,7 @@ fn aggregate<'a>(
     requires stored { All IsStorableTuple group.now.tuples }
     ensures ok { IfOk result (λ given. option_map owned given ≡ aggregate call (of_each (gives arg.now) group.now.tuples)) }
     ensures within { IfOk result (λ given. IfSome given (IsWithin (aggregate_bits group.now.tables call (width_of group.now.tables arg.now).bits))) }
+    ensures memory { OnErr result (reads_arrays arg.now ≡ true) }
 {
     match call {
         AggCall::Count => Ok(Some(ValueRef::Int(count(alloc, arg, group)? as i128))),
@@ -277,6 +287,7 @@ fn count<'a>(alloc: Global, arg: &'a Expr, group: &Group<'a>) -> Result<usize, A
     requires stored { All IsStorableTuple group.now.tuples }
     ensures ok { IfOk result (λ count. count ≡ count_of (of_each (gives arg.now) group.now.tuples)) }
     ensures within { IfOk result (λ count. count ≤ length group.now.tuples) }
+    ensures memory { OnErr result (reads_arrays arg.now ≡ true) }
 {
     let mut count = 0;
     for index in 0..group.len() {
@@ -296,6 +307,7 @@ fn total<'a>(alloc: Global, arg: &'a Expr, group: &Group<'a>) -> Result<Option<i
     requires stored { All IsStorableTuple group.now.tuples }
     ensures ok { IfOk result (λ total. total ≡ total_of (map number_of (of_each (gives arg.now) group.now.tuples))) }
     ensures within { IfOk result (λ total. IfSome total (IsNumberWithin (aggregate_bits group.now.tables AggCall.Sum (width_of group.now.tables arg.now).bits))) }
+    ensures memory { OnErr result (reads_arrays arg.now ≡ true) }
 {
     let mut total = None;
     for index in 0..group.len() {
@@ -317,6 +329,7 @@ fn outermost<'a>(
     requires stored { All IsStorableTuple group.now.tuples }
     ensures ok { IfOk result (λ best. option_map owned best ≡ put_from (chosen call) None (of_each (gives arg.now) group.now.tuples)) }
     ensures within { IfOk result (λ best. IfSome best (IsWithin (width_of group.now.tables arg.now).bits)) }
+    ensures memory { OnErr result (reads_arrays arg.now ≡ true) }
 {
     let mut best = None;
     for index in 0..group.len() {
