@@ -85,7 +85,7 @@ fn kept_by_any(
     let mut kept = 0;
     for i in 0..places.len() {
         let place = places[i];
-        if let Truth::True = truth(alloc, test, &Group::alone(tables, &place))? {
+        if let Truth::True = truth(test, &Group::alone(alloc, tables, &place))? {
             places[kept] = place;
             kept += 1;
         }

@@ -13,7 +13,7 @@ pub returns : goal.returns
 returns c =
     let plan = c.args.plan.now in
     let parts = c.into_parts-columns.result in
-    let columns = parts.2.items in
+    let columns = parts.3.items in
     let row = row_at parts.0.now parts.1.now columns in
     let directions = λ (keys : List KeyPlan). map (λ (key : KeyPlan). key.descending) keys in
     let told : map row c.in_ok-numbers.numbers.items ≡ (if plan.distinct then distinct c.args.rows else c.args.rows) =

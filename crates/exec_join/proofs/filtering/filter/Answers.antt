@@ -16,8 +16,8 @@ keep-requires c =
     rw c.deref.ensures.value
     (all_made (tuple_at c.into_parts-tables.result.0.items) (λ t. CanEvaluateAlone t test) c.into_parts-tables.result.1.items (subst (All (λ t. CanEvaluateAlone t test)) c.into_parts-tables.ensures.exact c.requires))
 
-pub returns-in_ok-keep-clause-ok : goal.returns-in_ok-keep-clause-ok
-returns-in_ok-keep-clause-ok c =
+pub returns-clause-ok : goal.returns-clause-ok
+returns-clause-ok c =
     let test = c.args.test.now in
     let tables = c.into_parts-tables.result.0.items in
     let passes = λ (t : List (Option Cells)). keeps (truth_of (value_over (alone t) test)) in

@@ -24,7 +24,7 @@ loop-i-preserved c =
     let p = λ (place : Place). keeps (truth_of (value_over (alone (tuple_at c.args.tables.now place)) c.args.test.now)) in
     let lt : l.i < length l.places = omega arith in
     let told = ap (λ (g : GroupOf). keeps (truth_of (value_over g.tuples c.args.test.now))) (sym c.alone.ensures.exact) ∙ ap keeps (sym c.in_ok-truth.ensures.ok) in
-    elim c.match-truth.branch [
+    elim c.match-branch-2.branch [
       | in-True w ↦ rw (w.places-is, w.kept-is) (more_kept p c.args.places.now l.places l.kept l.i (record { rows = [] }) l.invariant lt (told ∙ ap keeps w.in-True.is))
       | in_default w ↦ rw (w.places-is, w.kept-is) (more_left p c.args.places.now l.places l.kept l.i (record { rows = [] }) l.invariant lt (told ∙ not_kept c.in_ok-truth.field-0 w.in_default.not-True))
     ]

@@ -161,7 +161,7 @@ pub value-returns-in_ok-product-in-Product-clause-within : goal.value-returns-in
 value-returns-in_ok-product-in-Product-clause-within t c =
     let k = c.args.group.now.tables in
     let same = ap (λ (members : List Expr). sum (bits_of (map (width_of k) members))) c.as_slice-in-Product.ensures
-        ∙ sym (ap (λ e. (width_of k e).bits) c.in-Product.is ∙ bits-Product k c.in-Product.members) in
+    ∙ sym (ap (λ e. (width_of k e).bits) c.in-Product.is ∙ bits-Product k c.in-Product.members) in
     subst (λ bits. IfSome c.lent-in-Product.result (IsWithin bits)) same (c.lent-in-Product.ensures.within _ c.in_ok-product-in-Product.ensures.within)
 
 pub value-returns-in_ok-truth_over-in-Or-clause-ok : goal.value-returns-in_ok-truth_over-in-Or-clause-ok
