@@ -33,7 +33,15 @@ pub(crate) fn printed<'a>(
     let mut scratch = Vec::new(alloc);
     for number in numbers {
         let group = Group::at(alloc, tuples, *number as usize);
-        append_row(star, plan.star, items, *number, &group, &mut scratch, &mut text)?;
+        append_row(
+            star,
+            plan.star,
+            items,
+            *number,
+            &group,
+            &mut scratch,
+            &mut text,
+        )?;
     }
     append_count(alloc, numbers.len(), &mut text)?;
     Ok(Bytes::from_vec(text))

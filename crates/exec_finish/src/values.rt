@@ -59,11 +59,7 @@ fn out_items<'a>(
     Ok(out)
 }
 
-fn out_item<'a>(
-    alloc: Global,
-    expr: &'a Expr,
-    tuples: &Tuples,
-) -> Result<OutItem<'a>, AllocError>
+fn out_item<'a>(alloc: Global, expr: &'a Expr, tuples: &Tuples) -> Result<OutItem<'a>, AllocError>
     requires { All (λ tuple. CanEvaluateAlone tuple expr.now) tuples.now }
     ensures ok { IfOk result (λ item. item.expr.now ≡ expr.now) }
     ensures ready { IfOk result (IsReadyOver tuples.now) }

@@ -14,10 +14,7 @@ use row_columns::ValueRef;
 use std::alloc::AllocError;
 
 /// The value of an expression over a group; none is NULL.
-pub fn eval<'a>(
-    expr: &'a Expr,
-    group: &Group<'a>,
-) -> Result<Option<Value>, AllocError>
+pub fn eval<'a>(expr: &'a Expr, group: &Group<'a>) -> Result<Option<Value>, AllocError>
     requires narrow { (width_of group.now.tables expr.now).narrow ≡ true }
     requires few { IsFew group.now.tables group.now.tuples }
     requires stored { All IsStorableTuple group.now.tuples }

@@ -22,10 +22,7 @@ use std::alloc::AllocError;
 
 /// The value of an expression over a group, lent; none is NULL. Only ANY takes memory.
 #[cycle(lending)]
-pub fn value<'a>(
-    expr: &'a Expr,
-    group: &Group<'a>,
-) -> Result<Option<ValueRef<'a>>, AllocError>
+pub fn value<'a>(expr: &'a Expr, group: &Group<'a>) -> Result<Option<ValueRef<'a>>, AllocError>
     requires narrow { (width_of group.now.tables expr.now).narrow ≡ true }
     requires few { IsFew group.now.tables group.now.tuples }
     requires stored { All IsStorableTuple group.now.tuples }
@@ -59,10 +56,7 @@ pub fn value<'a>(
 
 // The truth of an expression over a group.
 #[cycle(lending)]
-pub(crate) fn truth_over<'a>(
-    expr: &'a Expr,
-    group: &Group<'a>,
-) -> Result<Truth, AllocError>
+pub(crate) fn truth_over<'a>(expr: &'a Expr, group: &Group<'a>) -> Result<Truth, AllocError>
     requires narrow { (width_of group.now.tables expr.now).narrow ≡ true }
     requires few { IsFew group.now.tables group.now.tuples }
     requires stored { All IsStorableTuple group.now.tuples }
@@ -201,10 +195,7 @@ fn number<'a>(expr: &'a Expr, group: &Group<'a>) -> Result<Option<i128>, AllocEr
 
 // The sum of the members, if each is a number.
 #[cycle(lending)]
-fn sum<'a>(
-    addends: &'a [Addend],
-    group: &Group<'a>,
-) -> Result<Option<i128>, AllocError>
+fn sum<'a>(addends: &'a [Addend], group: &Group<'a>) -> Result<Option<i128>, AllocError>
     requires narrow { addends_are_narrow group.now.tables addends.now ≡ true }
     requires bits { sum_bits (bits_of (map (width_in group.now.tables) addends.now)) ≤ 126 }
     requires few { IsFew group.now.tables group.now.tuples }
@@ -225,10 +216,7 @@ fn sum<'a>(
 
 // The product of the members, if each is a number.
 #[cycle(lending)]
-fn product<'a>(
-    members: &'a [Expr],
-    group: &Group<'a>,
-) -> Result<Option<i128>, AllocError>
+fn product<'a>(members: &'a [Expr], group: &Group<'a>) -> Result<Option<i128>, AllocError>
     requires narrow { are_narrow group.now.tables members.now ≡ true }
     requires bits { sum (bits_of (map (width_of group.now.tables) members.now)) ≤ 126 }
     requires few { IsFew group.now.tables group.now.tuples }

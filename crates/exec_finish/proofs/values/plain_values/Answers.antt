@@ -13,7 +13,7 @@ use Rattle.exec_finish.proofs.values.plain_values.Goals as goal
 pub key_columns-requires : goal.key_columns-requires
 key_columns-requires c =
     let tuples = c.args.tuples.now in
-    subst (λ (keys : List KeyPlan). All (λ (tuple : Tuple). All (λ (key : KeyPlan). CanEvaluateAlone tuple key.expr) keys) tuples) (sym c.as_slice.ensures) c.requires.keys
+    subst (λ (keys : List KeyPlan). All (λ (tuple : Tuple). All (λ (key : KeyPlan). CanEvaluateAlone tuple key.expr) keys) tuples) (sym c.as_slice-2.ensures) c.requires.keys
 
 pub new-requires-clause-within : goal.new-requires-clause-within
 new-requires-clause-within c =
@@ -24,5 +24,5 @@ pub returns : goal.returns
 returns c =
     let p = c.args.plan.now in
     let tuples = c.args.tuples.now in
-    let columns = c.in_ok-columns.ensures.ok ∙ ap (map (λ (key : KeyPlan). map (λ (t : Tuple). value_over (alone t) key.expr) tuples)) c.as_slice.ensures in
+    let columns = c.in_ok-columns.ensures.ok ∙ ap (map (λ (key : KeyPlan). map (λ (t : Tuple). value_over (alone t) key.expr) tuples)) c.as_slice-2.ensures in
     record { ok = c.new.ensures.exact ∙ (λ i. rows_at p tuples (columns i) (c.in_ok-numbers.ensures.ok i)) ∙ rows_all p tuples c.len.result c.len.ensures.exact }
