@@ -1,80 +1,14 @@
 -- The rule of kinds.
-use Rattle.std.specs.Prelude.{Bool, true, ◌&&◌, List, Option, Some, None}
+use Rattle.std.specs.Prelude.{Bool, List}
 use Rattle.std.specs.List.{list_all}
-use Rattle.doc_values.specs.declared.kind.Kind.{Kind}
-use Rattle.doc_values.specs.declared.kind.Kind.TheVariants as kind
-use Rattle.doc_values.specs.Order.{same_kind}
-use Rattle.sql_tree.specs.declared.agg_call.AggCall.TheVariants as agg_call
-use Rattle.sql_tree.specs.declared.addend.Addend.{Addend}
 use Rattle.sql_tree.specs.declared.select.Select.{Select}
-use Rattle.sql_tree.specs.declared.term.Term.{Term}
-use Rattle.sql_tree.specs.declared.term.Term.TheOpen.{Term-F, Addend-F}
-use Rattle.sql_tree.specs.declared.term.Term.TheFolds.{fold-Term, fold-Addend}
-use Rattle.sql_eval.specs.Kinds.{own_step, wanted_beside}
-use Rattle.type_rules.specs.Places.{places_of}
+pub use Rattle.term_rules.specs.Kinds.{agree, Fitting, all_fit, side_fits, sides_fit, parts_fit, fitting_step, fitting_addend, fitting_of, addend_fits, fits}
+use Rattle.type_rules.specs.Places.{PlacedTerm, places_of}
 
--- Two kinds are not different; where one is missing they never are.
-abbrev pub agree : Option Kind → Option Kind → Bool
-agree (Some k) (Some j) = same_kind k j
-agree _ _ = true
+-- Each term keeps the rule in its place.
+abbrev pub places_fit : List PlacedTerm → Bool
+places_fit places = list_all (λ p. fits p.term p.want) places
 
--- A part of a term, to the term around it: its own kind, and whether it and its parts keep the rule where a kind is wanted of it, or none.
-pub record Fitting : Type 0 where
-  pub own : Option Kind
-  pub fits : Option Kind → Bool
-
--- Each of several parts keeps the rule where one kind is wanted.
-abbrev pub all_fit : Kind → List Fitting → Bool
-all_fit k ps = list_all (λ p. p.fits (Some k)) ps
-
--- A side of a comparison beside one with this own kind, or none: the own kinds do not differ, and where only the other side has one this side is wanted to be of it.
-abbrev pub side_fits : Option Kind → Fitting → Bool
-side_fits other p = agree p.own other && p.fits (wanted_beside p.own other)
-
--- The sides of a comparison keep the rule.
-abbrev pub sides_fit : Fitting → Fitting → Bool
-sides_fit p q = side_fits q.own p && side_fits p.own q
-
--- One level of a term where a kind is wanted of it, or none: what it wants of its parts. IN and BETWEEN take each comparison by itself.
-abbrev pub parts_fit : Term-F Fitting Bool → Option Kind → Bool
-parts_fit (Term-F.Or ps) want = all_fit kind.Bool ps
-parts_fit (Term-F.And ps) want = all_fit kind.Bool ps
-parts_fit (Term-F.Not p) want = p.fits (Some kind.Bool)
-parts_fit (Term-F.Compare op p q) want = sides_fit p q
-parts_fit (Term-F.IsNull p negated) want = p.fits None
-parts_fit (Term-F.Among p ps negated) want = list_all (sides_fit p) ps
-parts_fit (Term-F.Between p low high negated) want = sides_fit p low && sides_fit p high
-parts_fit (Term-F.Like p pattern negated) want = p.fits (Some kind.Text)
-parts_fit (Term-F.AnyOf p r) want = p.fits None
-parts_fit (Term-F.Sum fits) want = list_all (λ fit. fit) fits
-parts_fit (Term-F.Product ps) want = all_fit kind.Int ps
-parts_fit (Term-F.Minus p) want = p.fits (Some kind.Int)
-parts_fit (Term-F.Aggregate agg_call.Count p) want = p.fits None
-parts_fit (Term-F.Aggregate agg_call.Sum p) want = p.fits (Some kind.Int)
-parts_fit (Term-F.Aggregate agg_call.Min p) want = p.fits want
-parts_fit (Term-F.Aggregate agg_call.Max p) want = p.fits want
-parts_fit _ want = true
-
--- One level of a term: its own kind is not another than the one that is wanted, and its parts keep the rule.
-abbrev pub fitting_step : Term-F Fitting Bool → Fitting
-fitting_step level = let own : Option Kind = own_step (λ p. p.own) level in record { own = own; fits = λ want. agree want own && parts_fit level want }
-
--- A member of a sum: a number is wanted of it.
-abbrev pub fitting_addend : Addend-F Fitting Bool → Bool
-fitting_addend a = a.term.fits (Some kind.Int)
-
--- A term as a part.
-abbrev pub fitting_of : Term → Fitting
-fitting_of = fold-Term Fitting Bool fitting_step fitting_addend
-
--- A member of a sum keeps the rule.
-abbrev pub addend_fits : Addend → Bool
-addend_fits = fold-Addend Fitting Bool fitting_step fitting_addend
-
--- A term keeps the rule of kinds where a kind is wanted of it, or none.
-abbrev pub fits : Term → Option Kind → Bool
-fits t = (fitting_of t).fits
-
--- Each term of a question keeps the rule in its place.
+-- Each term of a question does.
 abbrev pub kinds_hold : Select → Bool
-kinds_hold s = list_all (λ p. fits p.term p.want) (places_of s)
+kinds_hold s = places_fit (places_of s)

@@ -1,8 +1,8 @@
 pub mod Places
 pub mod Uses
-pub mod SameColumns
 pub mod Names
 pub mod Aliased
+pub mod Groups
 pub mod Kinds
 pub mod Widths
 pub mod Written
@@ -10,4 +10,3 @@ pub mod Fault
 pub mod Runnable
 pub mod Plan
 pub mod Steps
-pub mod Shapes

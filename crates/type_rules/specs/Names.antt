@@ -1,15 +1,12 @@
 -- The rule of names.
-use Rattle.std.specs.Prelude.{ℕ, nat_le, Bool, true, ◌&&◌, not, List, [], ◌∷◌, length, Option, Some, None}
+use Rattle.std.specs.Prelude.{ℕ, Bool, true, ◌&&◌, not, List, [], ◌∷◌, map, Option, Some, None}
 use Rattle.std.specs.List.{list_any, list_all, flat_map}
 use Rattle.std.specs.Str.{bytes_eq}
-use Rattle.sql_tree.specs.declared.addend.Addend.{Addend}
-use Rattle.sql_tree.specs.declared.reference.Ref.{Ref}
-use Rattle.sql_tree.specs.declared.term.Term.{Term}
-use Rattle.sql_tree.specs.declared.term.Term.TheOpen.{Term-F}
-use Rattle.sql_tree.specs.declared.term.Term.TheFolds.{fold-Term, fold-Addend}
 use Rattle.sql_tree.specs.declared.item.Item.{Item}
+use Rattle.sql_tree.specs.declared.set.Set.{Set}
 use Rattle.sql_tree.specs.declared.select.Select.{Select}
-use Rattle.type_rules.specs.Places.{scope_of, places_of}
+pub use Rattle.term_rules.specs.Names.{is_in_scope, is_bound, refs_step, every_ref, every_ref_in, every_outer_ref}
+use Rattle.type_rules.specs.Places.{PlacedTerm, scope_of, places_of}
 
 -- No name is there twice.
 abbrev pub are_different : List (List ℕ) → Bool
@@ -25,42 +22,14 @@ alias_list (Some alias) = alias ∷ []
 abbrev pub item_aliases : List Item → List (List ℕ)
 item_aliases items = flat_map (λ i. alias_list i.alias) items
 
--- A qualifier is an alias in scope; only where one table is in scope it may be missing.
-abbrev pub is_in_scope : List (List ℕ) → Option (List ℕ) → Bool
-is_in_scope scope None = nat_le (length scope) 1
-is_in_scope scope (Some qualifier) = list_any (bytes_eq qualifier) scope
+-- The names that are set.
+abbrev pub set_names : List Set → List (List ℕ)
+set_names sets = map (λ x. x.name) sets
 
--- One level of a term: whether each reference in it passes a test.
-abbrev pub refs_step : (Ref → Bool) → Term-F Bool Bool → Bool
-refs_step test (Term-F.Column r) = test r
-refs_step test (Term-F.Wanted k r) = test r
-refs_step test (Term-F.Or ps) = list_all (λ p. p) ps
-refs_step test (Term-F.And ps) = list_all (λ p. p) ps
-refs_step test (Term-F.Not p) = p
-refs_step test (Term-F.Compare op p q) = p && q
-refs_step test (Term-F.IsNull p negated) = p
-refs_step test (Term-F.Among p ps negated) = p && list_all (λ p. p) ps
-refs_step test (Term-F.Between p low high negated) = p && (low && high)
-refs_step test (Term-F.Like p pattern negated) = p
-refs_step test (Term-F.AnyOf p r) = p && test r
-refs_step test (Term-F.Sum ps) = list_all (λ p. p) ps
-refs_step test (Term-F.Product ps) = list_all (λ p. p) ps
-refs_step test (Term-F.Minus p) = p
-refs_step test (Term-F.Aggregate call p) = p
-refs_step test _ = true
+-- Each reference is to a table in scope in its place. A key that stands for an item is no reference: its term is the item's.
+abbrev pub places_bound : List PlacedTerm → Bool
+places_bound places = list_all (λ p. every_ref (is_bound p.scope) p.term) places
 
--- Each reference in a term passes a test.
-abbrev pub every_ref : (Ref → Bool) → Term → Bool
-every_ref test = fold-Term Bool Bool (refs_step test) (λ a. a.term)
-
--- The same of a member of a sum.
-abbrev pub every_ref_in : (Ref → Bool) → Addend → Bool
-every_ref_in test = fold-Addend Bool Bool (refs_step test) (λ a. a.term)
-
--- A reference is to a table in scope.
-abbrev pub is_bound : List (List ℕ) → Ref → Bool
-is_bound scope r = is_in_scope scope r.qualifier
-
--- The aliases of the tables are different, those of the items are, and each reference is to a table in scope. A key that stands for an item is no reference: its term is the item's.
+-- The aliases of the tables are different, those of the items are, and each grouping and each other reference is to a table in scope.
 abbrev pub names_hold : Select → Bool
-names_hold s = (are_different (scope_of s) && are_different (item_aliases s.items)) && list_all (λ p. every_ref (is_bound (scope_of s)) p.term) (places_of s)
+names_hold s = ((are_different (scope_of s) && are_different (item_aliases s.items)) && list_all (is_bound (scope_of s)) s.grouping) && places_bound (places_of s)

@@ -1,50 +1,30 @@
 -- What is promised of a plan for those who run it.
-use Rattle.std.specs.Prelude.{◌≡◌, Bool, true, ◌&&◌, List, length, is_some, option_and_then, slice_get, IfSome}
-use Rattle.std.specs.List.{All, list_all}
-use Rattle.doc_values.specs.declared.col_ref.ColRef.{ColRef}
+use Rattle.std.specs.Prelude.{◌≡◌, ◌≤◌, suc, true, List, [], ◌∷◌, length, IfSome}
+use Rattle.std.specs.List.{All}
 use Rattle.sql_eval.specs.declared.slot.Slot.{Slot}
-use Rattle.sql_eval.specs.declared.expr.Expr.{Expr}
-use Rattle.sql_eval.specs.declared.expr.Expr.TheOpen.{Expr-F}
-use Rattle.sql_eval.specs.declared.expr.Expr.TheFolds.{fold-Expr}
 use Rattle.sql_eval.specs.declared.select_plan.SelectPlan.{SelectPlan}
-use Rattle.sql_eval.specs.Widths.{width_of, is_plain}
+use Rattle.sql_eval.specs.declared.update_plan.UpdatePlan.{UpdatePlan}
+use Rattle.sql_eval.specs.declared.delete_plan.DeletePlan.{DeletePlan}
+pub use Rattle.resolved_terms.specs.Computed.{slots_step, every_slot, is_column, IsComputed}
 
--- One level of an expression: whether each slot in it passes a test.
-abbrev pub slots_step : (Slot → Bool) → Expr-F Bool Bool → Bool
-slots_step test (Expr-F.Column slot) = test slot
-slots_step test (Expr-F.Wanted k slot) = test slot
-slots_step test (Expr-F.Or es) = list_all (λ e. e) es
-slots_step test (Expr-F.And es) = list_all (λ e. e) es
-slots_step test (Expr-F.Not e) = e
-slots_step test (Expr-F.Compare op e f) = e && f
-slots_step test (Expr-F.IsNull e negated) = e
-slots_step test (Expr-F.Among e es negated) = e && list_all (λ e. e) es
-slots_step test (Expr-F.Between e low high negated) = e && (low && high)
-slots_step test (Expr-F.Like e pattern negated) = e
-slots_step test (Expr-F.AnyOf e slot) = e && test slot
-slots_step test (Expr-F.Sum es) = list_all (λ e. e) es
-slots_step test (Expr-F.Product es) = list_all (λ e. e) es
-slots_step test (Expr-F.Minus e) = e
-slots_step test (Expr-F.Aggregate call e) = e
-slots_step test _ = true
-
--- Each slot of an expression passes a test.
-abbrev pub every_slot : (Slot → Bool) → Expr → Bool
-every_slot test = fold-Expr Bool Bool (slots_step test) (λ a. a.expr)
-
--- A slot is the place of a column that is read of its table.
-abbrev pub is_column : List (List ColRef) → Slot → Bool
-is_column refs slot = is_some (option_and_then (λ columns. slice_get columns slot.column) (slice_get refs slot.table))
-
--- An expression can be computed from one row of each table: it has no aggregate and no ANY, no number in it needs more than 126 bits, no numeral in it is above 2 to the 63, and each slot in it is that of a column that is read.
-pub record IsComputed (refs : List (List ColRef)) (e : Expr) : Type 0 where
-  pub plain : is_plain e ≡ true
-  pub narrow : (width_of (length refs) e).narrow ≡ true
-  pub slots : every_slot (is_column refs) e ≡ true
-
--- A plan can be run: it lists columns for each table, and each of its expressions can be computed from them.
+-- A plan can be run: it has one to three tables, a join for each behind the first, and columns for each; and each of its expressions can be computed from them.
 pub record CanBeRun (p : SelectPlan) : Type 0 where
+  pub least : 1 ≤ length p.from.tables
+  pub most : length p.from.tables ≤ 3
+  pub joined : suc (length p.from.joins) ≡ length p.from.tables
   pub refs : length p.refs ≡ length p.from.tables
+  pub joins : All (λ j. IfSome j.on (IsComputed p.refs)) p.from.joins
   pub test : IfSome p.test (IsComputed p.refs)
+  pub grouping : All (λ (slot : Slot). is_column p.refs slot ≡ true) p.grouping
+  pub having : IfSome p.having (IsComputed p.refs)
   pub items : All (IsComputed p.refs) p.items
   pub keys : All (λ k. IsComputed p.refs k.expr) p.keys
+
+-- A plan of an update can be run: each of its expressions can be computed from the columns of its collection.
+pub record UpdateCanBeRun (p : UpdatePlan) : Type 0 where
+  pub sets : All (λ x. IsComputed (p.refs ∷ []) x.expr) p.sets
+  pub test : IfSome p.test (IsComputed (p.refs ∷ []))
+
+-- A plan of a deletion can be run.
+pub record DeletionCanBeRun (p : DeletePlan) : Type 0 where
+  pub test : IfSome p.test (IsComputed (p.refs ∷ []))

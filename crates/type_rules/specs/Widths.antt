@@ -1,53 +1,14 @@
 -- The rule of widths.
-use Rattle.std.specs.Prelude.{ℕ, sum, Bool, List, [], ◌∷◌, length, Option, Some, None, if◌then◌else◌}
+use Rattle.std.specs.Prelude.{ℕ, Bool, List, length}
 use Rattle.std.specs.List.{list_all}
-use Rattle.sql_tree.specs.declared.addend.Addend.{Addend}
 use Rattle.sql_tree.specs.declared.select.Select.{Select}
-use Rattle.sql_tree.specs.declared.term.Term.{Term}
-use Rattle.sql_tree.specs.declared.term.Term.TheOpen.{Term-F}
-use Rattle.sql_tree.specs.declared.term.Term.TheFolds.{fold-Term, fold-Addend}
-use Rattle.sql_eval.specs.Widths.{Width, over, sum_bits, sum_bits_from, bits_of, aggregate_bits}
-use Rattle.type_rules.specs.Places.{places_of}
+pub use Rattle.term_rules.specs.Widths.{term_step, term_width, addend_width}
+use Rattle.type_rules.specs.Places.{PlacedTerm, places_of}
 
--- One level of a term over so many tables: the bits of the numbers that it may give, those of every reference being 63 and of what is neither a reference nor NULL nor a number 0, and whether it and each of its parts need at most 126.
-abbrev pub term_step : ℕ → Term-F Width Width → Width
-term_step tables (Term-F.Number n) = over 63 []
-term_step tables Term-F.Null = over 63 []
-term_step tables (Term-F.Column r) = over 63 []
-term_step tables (Term-F.Wanted k r) = over 63 []
-term_step tables (Term-F.Or ws) = over 0 ws
-term_step tables (Term-F.And ws) = over 0 ws
-term_step tables (Term-F.Not w) = over 0 (w ∷ [])
-term_step tables (Term-F.Compare op w x) = over 0 (w ∷ x ∷ [])
-term_step tables (Term-F.IsNull w negated) = over 0 (w ∷ [])
-term_step tables (Term-F.Among w ws negated) = over 0 (w ∷ ws)
-term_step tables (Term-F.Between w low high negated) = over 0 (w ∷ low ∷ high ∷ [])
-term_step tables (Term-F.Like w pattern negated) = over 0 (w ∷ [])
-term_step tables (Term-F.AnyOf w r) = over 0 (w ∷ [])
-term_step tables (Term-F.Sum ws) = over (sum_bits (bits_of ws)) ws
-term_step tables (Term-F.Product ws) = over (sum (bits_of ws)) ws
-term_step tables (Term-F.Minus w) = over w.bits (w ∷ [])
-term_step tables Term-F.CountAll = over 63 []
-term_step tables (Term-F.Aggregate call w) = over (aggregate_bits tables call w.bits) (w ∷ [])
-term_step tables _ = over 0 []
+-- No term over so many tables, at any depth, needs more than 126 bits.
+abbrev pub places_narrow : ℕ → List PlacedTerm → Bool
+places_narrow tables places = list_all (λ p. (term_width tables p.term).narrow) places
 
--- The width of a term over so many tables.
-abbrev pub term_width : ℕ → Term → Width
-term_width tables = fold-Term Width Width (term_step tables) (λ a. a.term)
-
--- The width of a member of a sum.
-abbrev pub addend_width : ℕ → Addend → Width
-addend_width tables = fold-Addend Width Width (term_step tables) (λ a. a.term)
-
--- The bits of a sum, from those of the members so far, if any, and those of the members that follow.
-abbrev pub bits_on : Option ℕ → List ℕ → ℕ
-bits_on None more = sum_bits more
-bits_on (Some bits) more = sum_bits_from bits more
-
--- The bits of what is narrow.
-abbrev pub narrow_bits : Width → Option ℕ
-narrow_bits w = if w.narrow then Some w.bits else None
-
--- No term of a question, at any depth, needs more than 126 bits.
+-- No term of a question does.
 abbrev pub widths_hold : Select → Bool
-widths_hold s = list_all (λ p. (term_width (length s.tables) p.term).narrow) (places_of s)
+widths_hold s = places_narrow (length s.tables) (places_of s)

@@ -1,58 +1,58 @@
 -- What these rules need of a statement that a text spells.
-use Rattle.std.specs.Prelude.{◌≡◌, ℕ, nat_le, Bool, true, false, ◌&&◌, List, [], ◌∷◌, length, None}
+use Rattle.std.specs.Prelude.{◌≡◌, ℕ, suc, ◌≤◌, Bool, true, false, not, List, [], ◌∷◌, length, Option, None, is_some, if◌then◌else◌}
 use Rattle.std.specs.List.{list_all}
-use Rattle.sql_tree.specs.declared.addend.Addend.{Addend}
-use Rattle.sql_tree.specs.declared.table.Table.{Table}
+use Rattle.sql_tree.specs.declared.join_way.JoinWay.{JoinWay}
+use Rattle.sql_tree.specs.declared.join_way.JoinWay.TheVariants as join_way
+use Rattle.sql_tree.specs.declared.join.Join.{Join}
+use Rattle.sql_tree.specs.declared.set.Set.{Set}
 use Rattle.sql_tree.specs.declared.select.Select.{Select}
 use Rattle.sql_tree.specs.declared.statement.Statement as statement
 use Rattle.sql_tree.specs.declared.term.Term.{Term}
-use Rattle.sql_tree.specs.declared.term.Term.TheOpen.{Term-F}
-use Rattle.sql_tree.specs.declared.term.Term.TheFolds.{fold-Term, fold-Addend}
-use Rattle.type_rules.specs.Places.{places_of}
+pub use Rattle.term_rules.specs.Written.{at_least, written_step, is_written, is_written_in}
+use Rattle.type_rules.specs.Places.{PlacedTerm, places_of, update_places, deletion_places}
 
--- At least so many parts, each of them written.
-abbrev pub at_least : ℕ → List Bool → Bool
-at_least few parts = nat_le few (length parts) && list_all (λ p. p) parts
+-- Each term is one that a text may spell.
+abbrev pub places_written : List PlacedTerm → Bool
+places_written places = list_all (λ p. is_written p.term) places
 
--- One level of a term that a text spells: a chain has two members at least, a list of IN one, a numeral is at most 2 to the 63. Aggregates and ANY are not written yet.
-abbrev pub written_step : Term-F Bool Bool → Bool
-written_step (Term-F.Number n) = nat_le n 9223372036854775808
-written_step (Term-F.Or ps) = at_least 2 ps
-written_step (Term-F.And ps) = at_least 2 ps
-written_step (Term-F.Not p) = p
-written_step (Term-F.Compare op p q) = p && q
-written_step (Term-F.IsNull p negated) = p
-written_step (Term-F.Among p ps negated) = p && at_least 1 ps
-written_step (Term-F.Between p low high negated) = (p && low) && high
-written_step (Term-F.Like p pattern negated) = p
-written_step (Term-F.Sum ps) = at_least 2 ps
-written_step (Term-F.Product ps) = at_least 2 ps
-written_step (Term-F.Minus p) = p
-written_step (Term-F.AnyOf p r) = false
-written_step Term-F.CountAll = false
-written_step (Term-F.Aggregate call p) = false
-written_step _ = true
+-- Tables with a comma between them have no condition.
+abbrev pub is_comma : JoinWay → Bool
+is_comma join_way.Comma = true
+is_comma join_way.Inner = false
+is_comma join_way.Left = false
 
--- Whether a text may spell a term.
-abbrev pub is_written : Term → Bool
-is_written = fold-Term Bool Bool written_step (λ a. a.term)
+-- A join has a condition exactly where it is no comma.
+abbrev pub has_condition : Join → Bool
+has_condition j = if is_comma j.way then not (is_some j.on) else is_some j.on
 
--- The same of a member of a sum.
-abbrev pub is_written_in : Addend → Bool
-is_written_in = fold-Addend Bool Bool written_step (λ a. a.term)
-
--- What each question that a text spells has: one table, which nothing joins or groups, and terms that are written.
-pub record IsQuestion (s : Select) : Type 0 where
-  pub table : Table
-  pub tables : s.tables ≡ table ∷ []
-  pub joins : s.joins ≡ []
+-- A question that asks for whole documents has one table, and neither items nor groups.
+pub record IsWhole (s : Select) : Type 0 where
+  pub tables : length s.tables ≡ 1
+  pub items : s.items ≡ []
   pub grouping : s.grouping ≡ []
   pub having : s.having ≡ None
-  pub terms : list_all (λ p. is_written p.term) (places_of s) ≡ true
 
--- What each statement that a text spells has. Updates and deletions are not written yet.
+-- What each question that a text spells has: one to three tables, a join for each behind the first, with a condition where its way asks for one; at most 64 items, groupings and keys; and terms that are written.
+pub record IsQuestion (s : Select) : Type 0 where
+  pub least : 1 ≤ length s.tables
+  pub most : length s.tables ≤ 3
+  pub joined : suc (length s.joins) ≡ length s.tables
+  pub conditions : list_all has_condition s.joins ≡ true
+  pub whole : s.star ≡ true → IsWhole s
+  pub items : length s.items ≤ 64
+  pub grouping : length s.grouping ≤ 64
+  pub keys : length s.keys ≤ 64
+  pub terms : places_written (places_of s) ≡ true
+
+-- What each update that a text spells has: one to 64 parts that are set, and terms that are written.
+pub record IsUpdate (collection : List ℕ) (sets : List Set) (test : Option Term) : Type 0 where
+  pub least : 1 ≤ length sets
+  pub most : length sets ≤ 64
+  pub terms : places_written (update_places collection sets test) ≡ true
+
+-- What each statement that a text spells has.
 abbrev pub IsWritten : statement.Statement → Type 0
 IsWritten (statement.TheVariants.Load collection json) = Unit {0}
 IsWritten (statement.TheVariants.Select s) = IsQuestion s
-IsWritten (statement.TheVariants.Update collection sets test) = ⊥
-IsWritten (statement.TheVariants.Delete collection test) = ⊥
+IsWritten (statement.TheVariants.Update collection sets test) = IsUpdate collection sets test
+IsWritten (statement.TheVariants.Delete collection test) = places_written (deletion_places collection test) ≡ true

@@ -1,0 +1,4 @@
+pub mod Comparisons
+pub mod Bits
+pub mod TermFolds
+pub mod GroupingsNoted
