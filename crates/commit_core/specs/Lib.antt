@@ -7,6 +7,4 @@ pub mod Commits
 pub mod OneWrite
 pub mod Agreement
 pub mod Planned
-pub mod StoredTable
-pub mod Loading
-pub mod StoredRow
+pub mod Stored

@@ -9,23 +9,11 @@ use Rattle.doc_flatten.specs.Documents.{IsWithinLimits}
 use Rattle.attr_catalog.specs.Catalog.{most_attributes, most_versions}
 use Rattle.document_records.specs.Limits.{most_weight}
 pub use Rattle.document_records.specs.Pairs.{pair_of}
+pub use Rattle.write_plans.specs.Collection.{Row, Collection}
 
 -- How many collections a state may have.
 abbrev pub most_collections : ℕ
 most_collections = 256
-
--- A document in its row.
-pub record Row : Type 0 where
-  pub number : ℕ
-  pub document : Fields
-
--- A collection: its rows, the number of the next row, how many versions were written, and the pairs of name and kind ever written; `IsCollection` says which rules it keeps.
-pub record Collection : Type 0 where
-  pub name : List ℕ
-  pub rows : List Row
-  pub next_row : ℕ
-  pub versions : ℕ
-  pub pairs : List (List ℕ × Kind)
 
 -- A state: the collections in the order of their first load; `IsState` says which rules it keeps.
 abbrev pub State : Type 0

@@ -1,9 +1,10 @@
-ghost use Rattle.std.specs.Prelude.{◌≡◌, ◌≤◌, [], All, Err, None, OnOk, OnErr, false, option_copied, position, true};
-ghost use Rattle.doc_flatten.specs.Documents.{IsWithinLimits};
+ghost use Rattle.std.specs.Prelude.{◌≡◌, ◌≤◌, ◌<◌, ◌+◌, ◌^◌, [], All, Err, None, OnOk, OnErr, false, length, map, option_copied, position, true};
 
-use crate::load_refusal::LoadRefusal;
 use crate::table::Table;
 use doc_values::Documents;
+use layout_store::GrowFault;
+use row_versions::latest_stays;
+use shown_rows::rows_follow_their_documents;
 use std::alloc::Global;
 use std::marker::Model;
 
@@ -17,10 +18,16 @@ pub(crate) struct Collections {
 }
 
 impl Model for Collections {
-    ghost use Rattle.std.specs.Prelude.{◌≤◌, length};
-    ghost use Rattle.commit_core.specs.State.{State, most_collections};
+    ghost use Rattle.std.specs.Prelude.{◌≤◌, List, length};
+    ghost use Rattle.std.specs.Coded.{codes};
+    ghost use Rattle.std.specs.FinMap as map;
+    ghost use Rattle.doc_values.specs.contracts.value.Value as of_value;
+    ghost use Rattle.commit_core.specs.State.{most_collections};
+    ghost use Rattle.commit_core.specs.Stored.{Stored};
 
-    ghost Value = { State };
+    ghost Value = { List Stored };
+
+    ghost coded = { Prim.hlevel (codes, map.code, of_value.the_row.coded) };
 
     ghost view = { λ c. c.tables.items };
 
@@ -30,8 +37,9 @@ impl Model for Collections {
 impl Collections {
     ghost use Rattle.doc_values.specs.Weight.{weight_of};
     ghost use Rattle.document_records.specs.Limits.{most_weight};
-    ghost use Rattle.commit_core.specs.State.{collection_at, is_named};
+    ghost use Rattle.layout_store.specs.Documents.{most_fields};
     ghost use Rattle.commit_core.specs.Write.{is_full, with_load};
+    ghost use Rattle.commit_core.specs.Stored.{stored_in, is_table, table_at, AreSettled, HaveBecome, AreAsBefore};
 
     /// No collection.
     pub(crate) fn new(alloc: Global) -> Collections
@@ -44,51 +52,64 @@ impl Collections {
 
     /// The collection with a name, if there is one.
     pub(crate) fn get(&self, name: &str) -> Option<&Table>
-        ensures exact { option_copied result ≡ collection_at name.now self.now }
+        ensures exact { option_copied result ≡ table_at name.now self.now }
     {
         self.tables.iter().find(|table| name == table.name())
     }
 
-    /// Puts documents into a collection, which stands behind the others if it is new.
-    pub(crate) fn load(&mut self, name: &str, documents: &Documents) -> Result<(), LoadRefusal>
-        requires limits { All IsWithinLimits documents.now }
+    /// Puts documents into a collection at the commit that follows on so many; it stands behind the others if it is new.
+    pub(crate) fn load(
+        &mut self,
+        name: &str,
+        documents: &Documents,
+        now: u64,
+    ) -> Result<(), GrowFault>
+        requires limits { All (λ document. length document ≤ most_fields) documents.now }
         requires light { All (λ document. weight_of document ≤ most_weight) documents.now }
-        ensures ok { OnOk result (self.new ≡ with_load name.now documents.now self.old) }
-        ensures within { OnOk result (is_full name.now (with_load name.now documents.now self.old) ≡ false) }
-        ensures full { result ≡ Err LoadRefusal.Full → is_full name.now (with_load name.now documents.now self.old) ≡ true }
-        ensures kept { OnErr result (self.new ≡ self.old) }
+        requires settled { AreSettled now self.old }
+        requires room { now + 1 < 2 ^ 64 }
+        ensures ok { OnOk result (HaveBecome (with_load name.now documents.now (map (stored_in now) self.old)) now self.old self.new) }
+        ensures within { OnOk result (is_full name.now (with_load name.now documents.now (map (stored_in now) self.old)) ≡ false) }
+        ensures full { result ≡ Err GrowFault.Full → is_full name.now (with_load name.now documents.now (map (stored_in now) self.old)) ≡ true }
+        ensures kept { OnErr result (AreAsBefore self.old self.new) }
     {
+        rows_follow_their_documents();
+        latest_stays();
         match self.place(name) {
             Some(place) => {
                 let table = &mut self.tables[place];
-                table.load(documents)
+                table.load(documents, now)
             }
-            None => self.load_new(name, documents),
+            None => self.load_new(name, documents, now),
         }
     }
 
     // Where the collection with a name stands.
     fn place(&self, name: &str) -> Option<usize>
-        ensures exact { result ≡ position (is_named name.now) self.now }
+        ensures exact { result ≡ position (is_table name.now) self.now }
     {
         self.tables.iter().position(|table| name == table.name())
     }
 
     // Puts documents into a collection that is new.
-    fn load_new(&mut self, name: &str, documents: &Documents) -> Result<(), LoadRefusal>
-        requires unknown { position (is_named name.now) self.old ≡ None }
-        requires limits { All IsWithinLimits documents.now }
+    fn load_new(&mut self, name: &str, documents: &Documents, now: u64) -> Result<(), GrowFault>
+        requires unknown { position (is_table name.now) self.old ≡ None }
+        requires limits { All (λ document. length document ≤ most_fields) documents.now }
         requires light { All (λ document. weight_of document ≤ most_weight) documents.now }
-        ensures ok { OnOk result (self.new ≡ with_load name.now documents.now self.old) }
-        ensures within { OnOk result (is_full name.now (with_load name.now documents.now self.old) ≡ false) }
-        ensures full { result ≡ Err LoadRefusal.Full → is_full name.now (with_load name.now documents.now self.old) ≡ true }
-        ensures kept { OnErr result (self.new ≡ self.old) }
+        requires settled { AreSettled now self.old }
+        requires room { now + 1 < 2 ^ 64 }
+        ensures ok { OnOk result (HaveBecome (with_load name.now documents.now (map (stored_in now) self.old)) now self.old self.new) }
+        ensures within { OnOk result (is_full name.now (with_load name.now documents.now (map (stored_in now) self.old)) ≡ false) }
+        ensures full { result ≡ Err GrowFault.Full → is_full name.now (with_load name.now documents.now (map (stored_in now) self.old)) ≡ true }
+        ensures kept { OnErr result (AreAsBefore self.old self.new) }
     {
+        rows_follow_their_documents();
+        latest_stays();
         if self.tables.len() >= MOST_COLLECTIONS {
-            return Err(LoadRefusal::Full);
+            return Err(GrowFault::Full);
         }
         let mut table = Table::new(*self.tables.allocator(), name)?;
-        table.load(documents)?;
+        table.load(documents, now)?;
         self.tables.push(table)?;
         Ok(())
     }

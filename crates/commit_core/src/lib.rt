@@ -5,23 +5,17 @@
 //! first: the reply to a text over a state, and the state after texts, are what the promise rests on.
 #![tactic(auto)]
 
-mod choosing;
 mod collections;
-mod column_path;
-mod counting;
 mod entry;
 mod laws;
 mod limits;
 mod lines;
-mod load_refusal;
-mod loading;
 mod planned;
 mod prepared;
 mod prepared_sort;
 mod preparing;
 mod reading;
 mod reply;
-mod row_reading;
 mod settings;
 mod state_laws;
 mod store;

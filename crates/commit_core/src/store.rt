@@ -3,7 +3,6 @@ ghost use Rattle.std.specs.Prelude.{◌≡◌, [], ◌∷◌, List, length, map,
 use crate::collections::Collections;
 use crate::entry::Entry;
 use crate::lines::{full_line, ok_line};
-use crate::load_refusal::LoadRefusal;
 use crate::planned::Planned;
 use crate::prepared::Prepared;
 use crate::prepared_sort::PreparedSort;
@@ -11,8 +10,10 @@ use crate::reading::Reading;
 use crate::reply::Reply;
 use crate::state_laws::{loads_are_light, states_keep_the_rules};
 use doc_values::{Bytes, Documents, Utf, documents_are_maps};
+use layout_store::GrowFault;
 use query_meaning::{plans_can_be_run, plans_keep_meaning, plans_read_what_is_asked};
 use row_columns::TableRows;
+use shown_rows::rows_follow_their_documents;
 use sql_eval::SelectPlan;
 use sqlite_items::Items;
 use std::alloc::{AllocError, Global};
@@ -26,15 +27,14 @@ pub struct Core {
 }
 
 impl Model for Core {
-    ghost use Rattle.std.specs.Prelude.{◌≡◌};
-    ghost use Rattle.commit_core.specs.Commits.{CoreOf};
-    ghost use Rattle.commit_core.specs.OneWrite.{state_of};
+    ghost use Rattle.commit_core.specs.Commits.{CoreOf, texts_of};
+    ghost use Rattle.commit_core.specs.Stored.{AreTrueTo};
 
     ghost Value = { CoreOf };
 
     ghost view = { λ c. record { commits = c.commits.items } };
 
-    ghost invariant = { λ c. c.collections ≡ state_of c.commits.items };
+    ghost invariant = { λ c. AreTrueTo (texts_of c.commits.items) c.collections };
 }
 
 impl Core {
@@ -136,14 +136,17 @@ impl Core {
         ensures memory { OnErr result (self.new ≡ self.old) }
     {
         loads_are_light();
+        states_keep_the_rules();
+        rows_follow_their_documents();
         let entry = Entry {
             caller,
             text: text.copy()?,
         };
         let alloc = self.allocator();
         let body = ok_line(alloc, documents.len())?;
+        let now = self.now();
         self.commits.reserve(1)?;
-        match self.collections.load(collection.text(), documents) {
+        match self.collections.load(collection.text(), documents, now) {
             Ok(()) => {
                 // Room was made, so this never fails.
                 self.commits.push(entry)?;
@@ -153,8 +156,8 @@ impl Core {
                     body,
                 })
             }
-            Err(LoadRefusal::Full) => Ok(self.refused(full_line(alloc)?)),
-            Err(LoadRefusal::Memory) => Err(AllocError),
+            Err(GrowFault::Full) => Ok(self.refused(full_line(alloc)?)),
+            Err(GrowFault::Memory) => Err(AllocError),
         }
     }
 
@@ -195,7 +198,7 @@ impl Core {
             unreachable!()
         };
         match self.collections.get(collection.text()) {
-            Some(table) => table.rows(plan, columns.as_slice()),
+            Some(table) => table.rows(self.allocator(), plan, columns.as_slice(), self.now()),
             None => {
                 let alloc = self.allocator();
                 Ok(TableRows::new(0, Vec::new(alloc), Vec::new(alloc)))

@@ -1,56 +1,55 @@
-ghost use Rattle.std.specs.Prelude.{◌≡◌, ◌≤◌, true, false, Err, All, map, IfOk, OnOk, OnErr};
-ghost use Rattle.doc_flatten.specs.Documents.{IsWithinLimits};
+ghost use Rattle.std.specs.Prelude.{◌≡◌, ◌≤◌, ◌<◌, ◌+◌, ◌^◌, Err, All, true, false, length, map, IfOk, OnOk, OnErr};
 
-use crate::choosing::needed;
-use crate::load_refusal::LoadRefusal;
-use crate::loading::load;
-use crate::row_reading::{paths, rows_along};
-use attr_catalog::Catalog;
-use doc_values::{ColRef, Documents, Utf, documents_are_maps};
-use document_records::{Record, records_are_their_documents};
+use doc_values::{ColRef, Documents, Utf};
+use layout_store::{GrowFault, Layout};
+use query_meaning::most_needed;
 use row_columns::TableRows;
+use scan_batches::{Scan, batch};
 use sql_eval::SelectPlan;
 use std::alloc::{AllocError, Global};
 use std::marker::Model;
+use write_plans::load;
 
-/// One collection: its name, its attributes and a record for each document. Beside them stands which attribute followed
-/// which one in the documents that were loaded last, at the number of the one before and 1.
+/// One collection: its name and its layout.
 #[derive(Drop)]
 pub(crate) struct Table {
     name: Utf,
-    catalog: Catalog,
-    records: Vec<Record>,
-    followers: Vec<u32>,
+    layout: Layout,
 }
 
 impl Model for Table {
-    ghost use Rattle.commit_core.specs.State.{Collection};
-    ghost use Rattle.commit_core.specs.StoredTable.{collection_of, IsTable};
+    ghost use Rattle.std.specs.Coded.{codes};
+    ghost use Rattle.std.specs.FinMap as map;
+    ghost use Rattle.doc_values.specs.contracts.value.Value as of_value;
+    ghost use Rattle.commit_core.specs.Stored.{Stored};
 
-    ghost Value = { Collection };
+    ghost Value = { Stored };
 
-    ghost view = { λ t. collection_of t.name t.catalog t.records.items };
+    ghost coded = { Prim.hlevel (codes, map.code, of_value.the_row.coded) };
 
-    ghost invariant = { λ t. IsTable t.catalog t.records.items };
+    ghost view = { λ t. record { name = t.name; storage = t.layout } };
 }
 
 impl Table {
     ghost use Rattle.doc_values.specs.Doc.{IsDocument};
     ghost use Rattle.doc_values.specs.Weight.{weight_of};
     ghost use Rattle.document_records.specs.Limits.{most_weight};
+    ghost use Rattle.layout_store.specs.Documents.{most_fields};
     ghost use Rattle.query_meaning.specs.Plans.{rows_alone};
     ghost use Rattle.query_meaning.specs.Runs.{CanBeTested};
-    ghost use Rattle.commit_core.specs.Write.{new_collection, with_documents, is_beyond};
+    ghost use Rattle.shown_rows.specs.Rows.{rows_at};
+    ghost use Rattle.write_plans.specs.Becomes.{IsSettled};
+    ghost use Rattle.commit_core.specs.Write.{with_documents, is_beyond};
+    ghost use Rattle.commit_core.specs.Stored.{nothing_stored, stored_in, HasChanged, IsAsBefore};
 
     /// A collection that nothing was put into.
     pub(crate) fn new(alloc: Global, name: &str) -> Result<Table, AllocError>
-        ensures ok { IfOk result (λ table. table ≡ new_collection name.now) }
+        ensures ok { IfOk result (λ table. table ≡ nothing_stored name.now) }
     {
+        let name = Utf::of(alloc, name)?;
         Ok(Table {
-            name: Utf::of(alloc, name)?,
-            catalog: Catalog::new(alloc),
-            records: Vec::new(alloc),
-            followers: Vec::new(alloc),
+            name,
+            layout: Layout::new(alloc),
         })
     }
 
@@ -61,40 +60,46 @@ impl Table {
         self.name.text()
     }
 
-    /// Puts documents behind those that are there.
-    pub(crate) fn load(&mut self, documents: &Documents) -> Result<(), LoadRefusal>
-        requires limits { All IsWithinLimits documents.now }
+    /// Puts documents into new rows at the commit that follows on so many, or leaves all as it was.
+    pub(crate) fn load(&mut self, documents: &Documents, now: u64) -> Result<(), GrowFault>
+        requires limits { All (λ document. length document ≤ most_fields) documents.now }
         requires light { All (λ document. weight_of document ≤ most_weight) documents.now }
-        ensures ok { OnOk result (self.new ≡ with_documents documents.now self.old) }
-        ensures within { OnOk result (is_beyond (with_documents documents.now self.old) ≡ false) }
-        ensures full { result ≡ Err LoadRefusal.Full → is_beyond (with_documents documents.now self.old) ≡ true }
-        ensures kept { OnErr result (self.new ≡ self.old) }
+        requires settled { IsSettled now self.old.storage }
+        requires room { now + 1 < 2 ^ 64 }
+        ensures ok { OnOk result (HasChanged (with_documents documents.now) now self.old self.new) }
+        ensures within { OnOk result (is_beyond (with_documents documents.now (stored_in now self.old)) ≡ false) }
+        ensures full { result ≡ Err GrowFault.Full → is_beyond (with_documents documents.now (stored_in now self.old)) ≡ true }
+        ensures kept { OnErr result (IsAsBefore self.old self.new) }
     {
-        load(
-            &mut self.catalog,
-            &mut self.records,
-            &mut self.followers,
-            documents,
-        )
+        load(&mut self.layout, documents, now)
     }
 
-    /// The rows that a plan reads of its one table: of the documents that its condition keeps, as many as its answer
-    /// needs, each with a value, or NULL, for each column, and with the document where whole ones are asked for.
+    /// The rows that a plan reads of its one table after so many commits: of the documents that its condition keeps, as
+    /// many as its answer needs, each with a value, or NULL, for each column, and with the document where whole ones are
+    /// asked for.
     pub(crate) fn rows(
         &self,
+        alloc: Global,
         plan: &SelectPlan,
         columns: &[ColRef],
+        now: u64,
     ) -> Result<TableRows, AllocError>
-        requires ordered { All (λ row. IsDocument row.document) self.now.rows }
+        requires settled { IsSettled now self.now.storage }
         requires tested { CanBeTested plan.now }
-        ensures ok { IfOk result (λ rows. rows ≡ rows_alone plan.now columns.now (map (λ row. row.document) self.now.rows)) }
+        ensures ok { IfOk result (λ rows. rows ≡ rows_alone plan.now columns.now (map (λ row. row.document) (rows_at self.now.storage now))) }
     {
-        records_are_their_documents();
-        documents_are_maps();
-        self.catalog.keeps_the_rules();
-        let alloc = *self.records.allocator();
-        let paths = paths(alloc, &self.catalog, columns)?;
-        let needed = needed(alloc, &paths, plan, &self.records)?;
-        rows_along(alloc, &self.catalog, &paths, plan.star, &needed)
+        let rows = self.layout.versions().rows();
+        let most = most_needed(plan);
+        let mut scan = Scan::new(
+            alloc,
+            &self.layout,
+            now,
+            columns,
+            plan.star,
+            &plan.test,
+            most,
+        )?;
+        batch(&self.layout, &mut scan, rows.max(1))?;
+        Ok(scan.into_rows())
     }
 }

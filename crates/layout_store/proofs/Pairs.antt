@@ -76,6 +76,12 @@ number_at name of attributes id h =
     let s = stands_for attributes name of id h in
     pair_at attributes id.0 s.attribute s.there ∙ ap (λ (n : List ℕ). Some (n, s.attribute.kind)) (sym s.named) ∙ ap (λ (k : Kind). Some (name, k)) (sym s.kinded)
 
+-- a pair that has a number changes nothing
+pub pairs-known : (name : List ℕ) (of : Kind) (attributes : List Attribute) (id : AttrId) → id_of name of attributes ≡ Some id → pairs_of attributes ≡ pairs_with (pairs_of attributes) (name, of)
+pairs-known name of attributes id h =
+    let known : list_any (same_pair (name, of)) (pairs_of attributes) ≡ true = sym (known_is name of attributes) ∙ ap (λ (o : Option AttrId). is_some o) h in
+    sym (ap (λ (t : Bool). cond t (pairs_of attributes) (pairs_of attributes ++ (name, of) ∷ [])) known)
+
 -- where a pair is new there is one more
 pub length-new : (name : List ℕ) (of : Kind) (attributes : List Attribute) → id_of name of attributes ≡ None → length (pairs_with (pairs_of attributes) (name, of)) ≡ length attributes + 1
 length-new name of attributes h =

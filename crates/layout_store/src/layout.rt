@@ -17,6 +17,7 @@ ghost use Rattle.document_records.specs.StoredDocument.{pairs_of};
 use crate::cell_ids::CellIds;
 use crate::counting::{lower_all, write_all};
 use crate::grow_fault::GrowFault;
+use crate::lent_numbering::record_of_lent;
 use crate::moving::{move_home, step_mark};
 use crate::numbering::record_of;
 use crate::pushing::push;
@@ -26,7 +27,7 @@ use crate::rolling::{clear_cells, raise_reopened, settle_marks, take_back};
 use crate::value_walk::ValueWalk;
 use crate::whole::whole;
 use attr_catalog::{Catalog, Home, Path, Way};
-use doc_values::{AttrId, Doc, ValueRef, documents_are_maps};
+use doc_values::{AttrId, Doc, DocRef, ValueRef, documents_are_maps};
 use document_records::{Parts, records_are_their_documents, stored_values_are_told_apart};
 use phys_columns::{Columns, CompareInt, Mask, cells_are_a_map};
 use row_versions::{
@@ -43,6 +44,8 @@ pub struct Layout {
     records: Vec<RecordPlace>,
     columns: Columns,
     cell_ids: CellIds,
+    // Which attribute followed which one in the documents that were added last.
+    followers: Vec<u32>,
     // Their memory serves many documents.
     entries: Vec<(u32, usize)>,
     parts: Parts,
@@ -91,6 +94,7 @@ impl Layout {
             records,
             columns,
             cell_ids,
+            followers: Vec::new(alloc),
             entries: Vec::new(alloc),
             parts: Parts::new(alloc),
         }
@@ -288,6 +292,62 @@ impl Layout {
             }
         }
     }
+
+    /// The same with a document that is lent.
+    pub fn add_lent(
+        &mut self,
+        row: u32,
+        document: &DocRef<'_>,
+        commit: u64,
+    ) -> Result<VersionId, GrowFault>
+        requires row { row ≤ rows_of self.old.history.versions }
+        requires latest { IsLatest commit self.old.history.versions }
+        requires ended { newest row self.old.history.versions ≡ None }
+        requires few { length document.now ≤ most_fields }
+        requires light { weight_of document.now ≤ most_weight }
+        ensures ok { OnOk result (HasAppended row commit document.now self.old self.new) }
+        ensures number { IfOk result (λ id. id ≡ version_at (length self.old.history.versions)) }
+        ensures shows { OnOk result (HasWritten commit row (Some document.now) self.old self.new) }
+        ensures within { OnOk result ((length self.old.history.versions < most_versions) × (length (with_fields (pairs_of self.old.attributes) document.now) ≤ most_attributes)) }
+        ensures full { result ≡ Err GrowFault.Full → (length self.old.history.versions ≡ most_versions) ⊎ (most_attributes < length (with_fields (pairs_of self.old.attributes) document.now)) }
+        ensures kept { OnErr result (self.new ≡ self.old) }
+    {
+        appends_show();
+        self.versions.keeps_order();
+        let _kept = document.len();
+        let alloc = *self.records.allocator();
+        let attributes = self.catalog.len();
+        let catalog = &mut self.catalog;
+        let followers = &mut self.followers;
+        match record_of_lent(
+            alloc,
+            catalog,
+            followers,
+            document,
+            &mut self.entries,
+            &mut self.parts,
+        ) {
+            Ok(record) => match push(&mut self.versions, &mut self.records, record, row, commit) {
+                Ok(version) => {
+                    write_all(
+                        &mut self.catalog,
+                        &self.records[version.0 as usize],
+                        version.0,
+                    );
+                    Ok(version)
+                }
+                Err(fault) => {
+                    self.catalog.cut(attributes);
+                    Err(fault)
+                }
+            },
+            Err(fault) => {
+                self.catalog.cut(attributes);
+                Err(fault)
+            }
+        }
+    }
+
     /// Takes the newest commit back: its versions and its ends, and the attributes from number `left` on.
     pub fn roll_back(&mut self, commit: u64, left: u32)
         requires latest { IsLatest commit self.old.history.versions }

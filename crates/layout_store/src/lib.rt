@@ -10,6 +10,7 @@ mod cell_ids;
 mod counting;
 mod grow_fault;
 mod layout;
+mod lent_numbering;
 mod moving;
 mod numbering;
 mod pushing;

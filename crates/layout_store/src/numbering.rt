@@ -60,8 +60,8 @@ fn number_fields(
     Ok(())
 }
 
-// The number of a pair, which is appended where it is new.
-fn number_pair(catalog: &mut Catalog, name: &str, kind: Kind) -> Result<u32, GrowFault>
+/// The number of a pair, which is appended where it is new.
+pub(crate) fn number_pair(catalog: &mut Catalog, name: &str, kind: Kind) -> Result<u32, GrowFault>
     ensures grown { HasGrown catalog.old catalog.new }
     ensures number { IfOk result (λ id. slice_get (pairs_of catalog.new) id ≡ Some (name.now, kind)) }
     ensures pairs { OnOk result (pairs_of catalog.new ≡ pairs_with (pairs_of catalog.old) (name.now, kind)) }

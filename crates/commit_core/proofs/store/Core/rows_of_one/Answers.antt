@@ -1,4 +1,4 @@
-use Rattle.std.proofs.Common.{◌≡◌, ◌∙◌, ℕ, List, [], ◌∷◌, Some, map, slice_get, sym, ap, subst, rules}
+use Rattle.std.proofs.Common.{◌≡◌, ◌∙◌, ℕ, List, [], ◌∷◌, Some, length, map, slice_get, sym, ap, subst, rules}
 use Rattle.std.proofs.lemmas.Option.{same_Some}
 use Rattle.std.proofs.lemmas.Result.{IfOk-weaker}
 use Rattle.doc_values.specs.Doc.{Fields}
@@ -15,7 +15,11 @@ use Rattle.commit_core.specs.Plan.{Plan}
 use Rattle.commit_core.specs.Planned.{IsReadAs}
 use Rattle.commit_core.specs.Query.{documents_asked}
 use Rattle.commit_core.specs.State.{State, IsState, Row, documents_at, documents_of_rows}
-use Rattle.commit_core.proofs.States.{rows_found-documents}
+use Rattle.shown_rows.specs.Rows.{rows_at}
+use Rattle.commit_core.specs.Commits.{CoreOf}
+use Rattle.commit_core.proofs.Found.{documents-found, documents-none, found-settled}
+use Rattle.commit_core.proofs.Scanned.{none-read}
+use Rattle.commit_core.proofs.Written.{length-texts}
 use Rattle.commit_core.proofs.store.Core.rows_of_one.Goals as goal
 
 -- the documents of the collection that is found are those that a question over it alone asks for
@@ -35,10 +39,10 @@ one_list resolved plan columns asked first =
     let lone = asked.resolves.refs in
     lone ∙ ap (λ (cs : List ColRef). cs ∷ []) (same_Some _ columns (ap (λ (refs : List (List ColRef)). slice_get refs 0) (sym lone) ∙ first))
 
-pub rows-requires-clause-ordered : goal.rows-requires-clause-ordered
-rows-requires-clause-ordered c =
-    let kept : IsState c.self.inside.collections = subst IsState (sym c.self.invariant) (c.states_keep_the_rules.ensures (texts_of c.self.inside.commits.items)) in
-    rows_found-documents c.text.result.now c.self.inside.collections c.in-Some-get-2.table.now kept (sym c.in-Some-get-2.ensures.exact)
+pub rows-requires-clause-settled : goal.rows-requires-clause-settled
+rows-requires-clause-settled c =
+    found-settled (texts_of c.self.inside.commits.items) c.self.inside.collections c.self.invariant c.text.result.now c.now.result (c.now.ensures.exact ∙ ap (λ (x : CoreOf). length x.commits) (sym c.self.view_is) ∙ sym (length-texts c.self.inside.commits.items)) c.in-Some-get-2.table.now
+    (sym c.in-Some-get-2.ensures.exact)
 
 pub rows-requires-clause-tested : goal.rows-requires-clause-tested
 rows-requires-clause-tested c = let asked = c.requires.1 in c.plans_can_be_run.ensures.tested asked.question c.args.plan.now asked.resolves asked.runs
@@ -59,6 +63,17 @@ returns-in-Some-get-2 c =
     let table = c.in-Some-get-2.table.now in
     let first : slice_get plan.from.tables 0 ≡ Some c.text.result.now = search rules in
     let one : slice_get plan.refs 0 ≡ Some c.as_slice.result.now = search rules in
-    let found : documents_at c.text.result.now (state_of c.self.inside.commits.items) ≡ map (λ (row : Row). row.document) table.rows =
-    ap (documents_at c.text.result.now) (sym c.self.invariant) ∙ ap documents_of_rows (sym c.in-Some-get-2.ensures.exact) in
-    record { ok = rw (← c.self.view_is) (IfOk-weaker c.rows.result _ _ (λ rows h. found_in c.plans_read_what_is_asked.ensures.law plan c.as_slice.result.now c.text.result.now (state_of c.self.inside.commits.items) (map (λ (row : Row). row.document) table.rows) rows first one found h) c.rows.ensures.ok) }
+    let now = c.now.ensures.exact ∙ ap (λ (x : CoreOf). length x.commits) (sym c.self.view_is) ∙ sym (length-texts c.self.inside.commits.items) in
+    let found = documents-found (texts_of c.self.inside.commits.items) c.self.inside.collections c.self.invariant c.text.result.now c.now.result now table (sym c.in-Some-get-2.ensures.exact) in
+    record { ok = rw (← c.self.view_is) (IfOk-weaker c.rows.result _ _ (λ rows h. found_in c.plans_read_what_is_asked.ensures.law plan c.as_slice.result.now c.text.result.now (state_of c.self.inside.commits.items) (map (λ (row : Row). row.document) (rows_at table.storage c.now.result)) rows first one found h) c.rows.ensures.ok) }
+
+pub returns-in-None : goal.returns-in-None
+returns-in-None c =
+    let plan = c.args.plan.now in
+    let columns = c.in-Some-get.columns.now in
+    let first : slice_get plan.from.tables 0 ≡ Some c.text.result.now = search rules in
+    let one : slice_get plan.refs 0 ≡ Some columns = search rules in
+    let now = sym (length-texts c.self.inside.commits.items) in
+    let found = documents-none (texts_of c.self.inside.commits.items) c.self.inside.collections c.self.invariant c.text.result.now (length c.self.inside.commits.items) now (sym c.in-None.ensures.exact) in
+    let read : c.new-in-None-2.result ≡ [] = search rules in
+    record { ok = rw (← c.self.view_is) (found_in c.plans_read_what_is_asked.ensures.law plan columns c.text.result.now (state_of c.self.inside.commits.items) [] c.new-in-None-2.result first one found (read ∙ sym (none-read plan columns))) }

@@ -1,14 +1,12 @@
-use Rattle.std.proofs.lemmas.Result.{on_ok_weaker, on_err_weaker}
-use Rattle.commit_core.proofs.TableLoads.{loaded_is, same_is}
+use Rattle.std.proofs.Common.{◌≡◌, ℕ, false, true, List}
+use Rattle.std.proofs.lemmas.Result.{on_ok_weaker}
+use Rattle.write_plans.specs.Collection.{with_documents, is_beyond}
+use Rattle.write_plans.specs.Becomes.{collection_in}
 use Rattle.commit_core.proofs.table.Table.load.Goals as goal
 
-pub returns : goal.returns
-returns c =
-    let s = c.self.inside in
-    let n = c.load.new in
-    record {
-      ok = rw (← c.self.view_is) (on_ok_weaker c.load.result (loaded_is s.name c.args.documents.now s.catalog n.catalog s.records.items n.records.items) c.load.ensures.ok);
-      within = rw (← c.self.view_is) c.load.ensures.within;
-      full = rw (← c.self.view_is) c.load.ensures.full;
-      kept = rw (← c.self.view_is) (on_err_weaker c.load.result (same_is s.name s.catalog n.catalog s.records.items n.records.items) c.load.ensures.kept);
-    }
+pub returns-clause-within : goal.returns-clause-within
+returns-clause-within c =
+    rw (← c.self.view_is) (on_ok_weaker c.load.result (λ (h : (name : List ℕ) → is_beyond (with_documents c.args.documents.now (collection_in name c.self.inside.layout c.args.now)) ≡ false). h c.self.inside.name) c.load.ensures.within)
+
+pub returns-clause-full : goal.returns-clause-full
+returns-clause-full c = λ full. rw (← c.self.view_is) (c.load.ensures.full full c.self.inside.name)

@@ -1,0 +1,4 @@
+mod First
+mod Marks
+mod Rearranged
+mod Settled

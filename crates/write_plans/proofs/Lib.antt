@@ -1,0 +1,5 @@
+pub mod Items
+pub mod Folds
+pub mod Front
+pub mod Back
+pub mod Added
