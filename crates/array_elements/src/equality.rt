@@ -13,11 +13,7 @@ use serde_json::{Map, Number, Value as Json};
 use std::alloc::{AllocError, Global};
 
 // Whether an item of an array equals a value.
-pub(crate) fn equals(
-    alloc: Global,
-    value: ValueRef<'_>,
-    item: &Json,
-) -> Result<bool, AllocError>
+pub(crate) fn equals(alloc: Global, value: ValueRef<'_>, item: &Json) -> Result<bool, AllocError>
     ensures ok { IfOk result (λ same. same ≡ equals (owned value.entry) (view item.now)) }
 {
     match (value, item) {

@@ -1,8 +1,10 @@
 -- When a reading agrees with all commits.
-use Rattle.std.proofs.Common.{◌≡◌, ◌≤◌, ◌∙◌, ◌==◌, refl, ℕ, Bool, true, false, cond, List, [], ◌∷◌, Option, Some, None, option_and_then, length, map, sym, ap, subst, arith}
+use Rattle.std.proofs.Common.{◌≡◌, ◌≤◌, ◌∙◌, ◌==◌, refl, ℕ, Bool, true, false, not, cond, List, [], ◌∷◌, Option, Some, None, option_and_then, length, map, sym, ap, subst, arith}
 use Rattle.std.specs.Prelude.{All, IfSome, filter}
 use Rattle.std.specs.List.{AllByRecursion as EachIs}
 use Rattle.std.proofs.lemmas.List.Elements.{All-from_recursion, recursion_from_All, All-filter, All-take}
+use Rattle.std.specs.Cmp.{first_so}
+use Rattle.std.proofs.lemmas.Bool.{eqb-true}
 use Rattle.std.proofs.lemmas.List.{length-map, take_all}
 use Rattle.doc_values.specs.declared.col_ref.ColRef.{ColRef}
 use Rattle.doc_values.specs.declared.kind.Kind.{Kind}
@@ -16,13 +18,14 @@ use Rattle.sql_tree.specs.declared.table.Table.{Table}
 use Rattle.sql_eval.specs.declared.select_plan.SelectPlan.{SelectPlan}
 use Rattle.row_columns.specs.Contents.{Cells}
 use Rattle.sql_eval.specs.Meaning.{given, if_wanted}
+use Rattle.type_rules.specs.Groups.{is_grouped}
 use Rattle.type_rules.specs.Plan.{IsPlanOf}
-use Rattle.query_meaning.specs.Question.{alone, is_kept, answer_among}
+use Rattle.query_meaning.specs.Question.{one_sided, is_kept, answer_among}
 use Rattle.query_meaning.specs.Plans.{cells_under, each_under, most_needed, at_most, documents_needed, rows_under, Serve}
 use Rattle.query_meaning.specs.Runs.{IsStorableRow, AreRowsFor}
 use Rattle.commit_core.specs.State.{State, IsState, documents_at}
 use Rattle.commit_core.specs.Query.{documents_asked, answer_of}
-use Rattle.commit_core.specs.Plan.{Plan, refused, read, write, plan_of}
+use Rattle.commit_core.specs.Plan.{Plan, refused, read, write, plan_of, is_answered}
 use Rattle.commit_core.specs.Replies.{reply_at, told_plan, told_of, state_after}
 use Rattle.commit_core.proofs.States.{documents_at-documents}
 use Rattle.commit_core.specs.Planned.{IsReadAs}
@@ -39,11 +42,19 @@ Some-injective same = cc
 
 -- The references of a plan decide the answer to its question.
 abbrev PlansServe : Type 0
-PlansServe = (question : Select) (plan : SelectPlan) → IsPlanOf question plan → Serve plan.refs question
+PlansServe = (question : Select) (plan : SelectPlan) → IsPlanOf question plan → length plan.refs ≡ 1 → Serve plan.refs question
 
 -- a plan has a list of references for each table
 pub each_table : (resolved : SelectPlan) (plan : Plan) (asked : IsReadAs resolved plan) → length resolved.refs ≡ length asked.question.tables
-each_table resolved plan asked = ap length asked.resolves.refs ∙ ap length (sym asked.asked.tables)
+each_table resolved plan asked = asked.runs.refs ∙ ap length asked.resolves.tables ∙ length-map asked.question.tables (λ t. t.collection)
+
+-- a question that is answered has one table
+pub one_asked : (s : Select) → is_answered s ≡ true → length s.tables ≡ 1
+one_asked s e = eqb-true (length s.tables) 1 (first_so (length s.tables == 1) (not (is_grouped s)) e)
+
+-- its plan has the references of one
+pub one_reference : (resolved : SelectPlan) (plan : Plan) → IsReadAs resolved plan → length resolved.refs ≡ 1
+one_reference resolved plan asked = each_table resolved plan asked ∙ one_asked asked.question asked.asked
 
 -- a reading that has read nothing yet agrees with all commits
 pub Agrees-none : PlansServe → (text : List ℕ) (resolved : SelectPlan) (at : ℕ) (entries : List Entry) → IsReadAs resolved (plan_of text) → at ≡ length entries
@@ -55,7 +66,7 @@ Agrees-none serve text resolved at entries asked all =
       planned = asked.planned;
       reached = omega arith;
       each = each_table resolved (plan_of text) asked;
-      serve = serve asked.question resolved asked.resolves;
+      serve = serve asked.question resolved asked.resolves (one_reference resolved (plan_of text) asked);
       found = λ rows same. absurd (none same);
     }
   where
@@ -75,7 +86,7 @@ Agrees-all serve text resolved references entries rows asked same_references fou
       planned = asked.planned;
       reached = omega arith;
       each = ap length (sym same_references) ∙ each_table resolved (plan_of text) asked;
-      serve = subst (λ refs. Serve refs question) same_references (serve question resolved asked.resolves);
+      serve = subst (λ refs. Serve refs question) same_references (serve question resolved asked.resolves (one_reference resolved (plan_of text) asked));
       found = λ others same. Some-injective same ∙ found
           ∙ ap (λ refs. rows_under refs question (documents_asked question (state_of entries))) same_references
           ∙ ap (λ texts. rows_under references question (documents_asked question (state_after texts))) (sym (take_all (length entries) (texts_of entries) whole));
@@ -113,9 +124,9 @@ each_storable law (columns ∷ references) whole [] h = tt
 each_storable law (columns ∷ references) whole (ds ∷ tables) h =
     (All-from_recursion IsStorableRow (map (cells_under columns whole) ds) (rows_storable law columns whole ds (recursion_from_All IsDocument ds h.0)), each_storable law references whole tables h.1)
 
-needed_documents : (s : Select) (most : Option ℕ) (ds : List Fields) → All IsDocument ds → All IsDocument (at_most most (filter (λ (d : Fields). is_kept s (alone d)) ds))
-needed_documents s None ds h = All-filter (λ (d : Fields). is_kept s (alone d)) IsDocument ds h
-needed_documents s (Some most) ds h = All-take IsDocument most (filter (λ (d : Fields). is_kept s (alone d)) ds) (All-filter (λ (d : Fields). is_kept s (alone d)) IsDocument ds h)
+needed_documents : (s : Select) (most : Option ℕ) (ds : List Fields) → All IsDocument ds → All IsDocument (at_most most (filter (λ (d : Fields). is_kept s (one_sided d)) ds))
+needed_documents s None ds h = All-filter (λ (d : Fields). is_kept s (one_sided d)) IsDocument ds h
+needed_documents s (Some most) ds h = All-take IsDocument most (filter (λ (d : Fields). is_kept s (one_sided d)) ds) (All-filter (λ (d : Fields). is_kept s (one_sided d)) IsDocument ds h)
 
 under_storable : StaysDocument → (references : List (List ColRef)) (s : Select) (tables : List (List Fields)) → EachIs (All IsDocument) tables → EachIs (All IsStorableRow) (rows_under references s tables)
 under_storable law references s [] h = tt

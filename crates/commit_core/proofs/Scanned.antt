@@ -7,7 +7,7 @@ use Rattle.row_columns.specs.Contents.{Cells}
 use Rattle.row_versions.specs.History.{rows_of}
 use Rattle.sql_eval.specs.declared.key_plan.KeyPlan.{KeyPlan}
 use Rattle.sql_eval.specs.declared.select_plan.SelectPlan.{SelectPlan}
-use Rattle.query_meaning.specs.Plans.{alone, at_most, most_needed, cells_under, passes, rows_alone}
+use Rattle.query_meaning.specs.Plans.{one_sided, at_most, most_needed, cells_under, passes, rows_alone}
 use Rattle.layout_store.specs.Storage.{Storage}
 use Rattle.layout_store.specs.Shows.{shown}
 use Rattle.shown_rows.specs.Rows.{Row, rows_below, rows_at}
@@ -16,7 +16,7 @@ use Rattle.scan_batches.specs.Scans.{ScanOf, rows_wanted, has_enough, row_after}
 pub whole-scan : (s : Storage) (scan : ScanOf) (plan : SelectPlan) (columns : List ColRef) (now : ℕ) → scan.at ≡ now → scan.next_row ≡ rows_of s.history.versions → scan.refs ≡ columns → scan.star ≡ plan.star → scan.test ≡ plan.test
     → scan.most ≡ most_needed plan.distinct (map (λ (k : KeyPlan). k.descending) plan.keys) plan.limit → rows_wanted s scan ≡ rows_alone plan columns (map (λ (row : Row). row.document) (rows_at s now))
 whole-scan s scan plan columns now at next refs star test most =
-    λ i. map (cells_under (refs i) (star i)) (at_most (most i) (filter (λ (d : Fields). passes (test i) (alone (cells_under (refs i) false d))) (map (λ (row : Row). row.document) (rows_below (shown s (at i)) (next i)))))
+    λ i. map (cells_under (refs i) (star i)) (at_most (most i) (filter (λ (d : Fields). passes (test i) (one_sided (cells_under (refs i) false d))) (map (λ (row : Row). row.document) (rows_below (shown s (at i)) (next i)))))
 
 -- a batch of as many rows as there are passes all
 pub all-passed : (limit : ℕ) (before after : ScanOf) (end : ℕ) → before.next_row ≡ 0 → before.end_row ≡ end → end ≤ limit → row_after limit before after ≡ end

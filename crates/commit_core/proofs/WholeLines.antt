@@ -21,7 +21,8 @@ use Rattle.sql_tree.specs.declared.term.Term.{Term}
 use Rattle.sql_grammar.specs.StatementReader.{statement_of}
 use Rattle.row_columns.specs.Contents.{Output}
 use Rattle.row_columns.specs.Sides.{side_at}
-use Rattle.sql_eval.specs.Meaning.{meaning}
+use Rattle.sql_eval.specs.Groups.{alone}
+use Rattle.sql_eval.specs.Meaning.{Group, meaning}
 use Rattle.sql_eval.specs.OneLine.{HaveOneLineArrays}
 use Rattle.type_rules.specs.declared.rule.Rule.{Rule}
 use Rattle.type_rules.specs.declared.rule.Rule.TheVariants as rule
@@ -30,10 +31,10 @@ use Rattle.type_rules.specs.Places.{scope_of, item_terms}
 use Rattle.exec_finish.specs.Answer.{line, ok_line, finished}
 use Rattle.exec_finish.specs.Lines.{is_mark, IsAnswerLine, IsLines, HasOneLineValues}
 use Rattle.commit_core.specs.State.{State, documents_at, opening}
-use Rattle.query_meaning.specs.Question.{alone, with_table, tuples_of, is_kept, values_of, output_of, answer_among}
+use Rattle.query_meaning.specs.Question.{one_sided, with_table, tuples_of, is_kept, values_of, output_of, answer_among}
 use Rattle.commit_core.specs.Query.{documents_asked}
 use Rattle.commit_core.specs.Write.{accepted, full, loads, with_load, is_full}
-use Rattle.commit_core.specs.Plan.{Plan, refused, read, write, plan_of, plan_in, lawful_plan, checked_plan, load_plan, syntax_line, type_line, json_line}
+use Rattle.commit_core.specs.Plan.{Plan, refused, read, write, plan_of, plan_in, is_answered, lawful_plan, checked_plan, load_plan, syntax_line, type_line, json_line}
 use Rattle.commit_core.specs.Replies.{told_of, told_plan, told_effect, full_line, next_state, state_left, state_behind, state_after}
 use Rattle.commit_core.proofs.Loads.{same_or_not, documents_at-load, documents_at-load_other}
 
@@ -122,7 +123,7 @@ abbrev AnswersInLines : Type 0
 AnswersInLines = (is_distinct : Bool) (descending : List Bool) (limit : Option ℕ) (star : Bool) (rows : List Output) → All HasOneLineValues rows → IsLines (finished is_distinct descending limit star rows)
 
 abbrev MeansOnOneLine : Type 0
-MeansOnOneLine = (scope : List (List ℕ)) (sides : List (Option Fields)) (t : Term) (want : Option Kind) → HaveOneLineArrays sides → IfSome (meaning scope sides t want) HasOneLineArray
+MeansOnOneLine = (scope : List (List ℕ)) (group : Group) (t : Term) (want : Option Kind) → All HaveOneLineArrays group → IfSome (meaning scope group t want) HasOneLineArray
 
 abbrev GivesPlainArrays : Type 0
 GivesPlainArrays = (text : List ℕ) (docs : List Fields) → documents_of text ≡ Ok docs → All HasOneLineArrays docs
@@ -143,22 +144,22 @@ IsPlainSide side = IfSome side (All (λ field. HasOneLineArray field.1))
 abbrev IsPlainTuple : List (Option Fields) → Type 0
 IsPlainTuple = EachIs IsPlainSide
 
-alone_plain : (d : Fields) → IsPlainDocument d → IsPlainTuple (alone d)
+alone_plain : (d : Fields) → IsPlainDocument d → IsPlainTuple (one_sided d)
 alone_plain d h = (All-from_recursion (λ field. HasOneLineArray field.1) d h, tt)
 
-all_alone : (ds : List Fields) → EachIs IsPlainDocument ds → EachIs IsPlainTuple (map alone ds)
+all_alone : (ds : List Fields) → EachIs IsPlainDocument ds → EachIs IsPlainTuple (map one_sided ds)
 all_alone [] h = tt
 all_alone (d ∷ ds) h = (alone_plain d h.0, all_alone ds h.1)
 
-behind_plain : (tuple : List (Option Fields)) → IsPlainTuple tuple → (ds : List Fields) → EachIs IsPlainDocument ds → EachIs IsPlainTuple (map (λ (d : Fields). tuple ++ alone d) ds)
+behind_plain : (tuple : List (Option Fields)) → IsPlainTuple tuple → (ds : List Fields) → EachIs IsPlainDocument ds → EachIs IsPlainTuple (map (λ (d : Fields). tuple ++ one_sided d) ds)
 behind_plain tuple p [] h = tt
-behind_plain tuple p (d ∷ ds) h = (EachIs-append IsPlainSide tuple (alone d) p (alone_plain d h.0), behind_plain tuple p ds h.1)
+behind_plain tuple p (d ∷ ds) h = (EachIs-append IsPlainSide tuple (one_sided d) p (alone_plain d h.0), behind_plain tuple p ds h.1)
 
 table_plain : (tuples : List (List (Option Fields))) → EachIs IsPlainTuple tuples → (ds : List Fields) → EachIs IsPlainDocument ds → EachIs IsPlainTuple (with_table tuples ds)
 table_plain [] p ds h = tt
 table_plain (tuple ∷ tuples) p ds h =
-    subst (EachIs IsPlainTuple) (sym (flat_map-cons (λ (u : List (Option Fields)). map (λ (d : Fields). u ++ alone d) ds) tuple tuples))
-    (EachIs-append IsPlainTuple (map (λ (d : Fields). tuple ++ alone d) ds) (with_table tuples ds) (behind_plain tuple p.0 ds h) (table_plain tuples p.1 ds h))
+    subst (EachIs IsPlainTuple) (sym (flat_map-cons (λ (u : List (Option Fields)). map (λ (d : Fields). u ++ one_sided d) ds) tuple tuples))
+    (EachIs-append IsPlainTuple (map (λ (d : Fields). tuple ++ one_sided d) ds) (with_table tuples ds) (behind_plain tuple p.0 ds h) (table_plain tuples p.1 ds h))
 
 tables_plain : (tuples : List (List (Option Fields))) → EachIs IsPlainTuple tuples → (tables : List (List Fields)) → EachIs (EachIs IsPlainDocument) tables → EachIs IsPlainTuple (fold with_table tuples tables)
 tables_plain tuples p [] h = p
@@ -166,14 +167,14 @@ tables_plain tuples p (ds ∷ tables) h = tables_plain (with_table tuples ds) (t
 
 tuples_plain : (tables : List (List Fields)) → EachIs (EachIs IsPlainDocument) tables → EachIs IsPlainTuple (tuples_of tables)
 tuples_plain [] h = tt
-tuples_plain (ds ∷ tables) h = tables_plain (map alone ds) (all_alone ds h.0) tables h.1
+tuples_plain (ds ∷ tables) h = tables_plain (map one_sided ds) (all_alone ds h.0) tables h.1
 
 -- ---- the rows of an answer
 
 module _ (means : MeansOnOneLine) (s : Select) where
-  values_plain : (tuple : List (Option Fields)) → IsPlainTuple tuple → (ts : List Term) → EachIs (λ item. IfSome item HasOneLineArray) (values_of s tuple ts)
+  values_plain : (tuple : List (Option Fields)) → IsPlainTuple tuple → (ts : List Term) → EachIs (λ item. IfSome item HasOneLineArray) (values_of s (alone tuple) ts)
   values_plain tuple h [] = tt
-  values_plain tuple h (t ∷ ts) = (means (scope_of s) tuple t None (All-from_recursion IsPlainSide tuple h), values_plain tuple h ts)
+  values_plain tuple h (t ∷ ts) = (means (scope_of s) (alone tuple) t None (All-from_recursion HaveOneLineArrays (alone tuple) (All-from_recursion IsPlainSide tuple h, tt)), values_plain tuple h ts)
 
   doc_plain : (t : Bool) (tuple : List (Option Fields)) → IsPlainTuple tuple → IfSome (cond t (side_at tuple 0) None) (λ fields. All (λ field. HasOneLineArray field.1) fields)
   doc_plain false tuple h = tt
@@ -182,7 +183,7 @@ module _ (means : MeansOnOneLine) (s : Select) where
   doc_plain true (Some d ∷ sides) h = h.0
 
   row_plain : (tuple : List (Option Fields)) → IsPlainTuple tuple → HasOneLineValues (output_of s tuple)
-  row_plain tuple h = record { items = All-from_recursion _ (values_of s tuple (item_terms s)) (values_plain tuple h (item_terms s)); doc = doc_plain s.star tuple h }
+  row_plain tuple h = record { items = All-from_recursion _ (values_of s (alone tuple) (item_terms s)) (values_plain tuple h (item_terms s)); doc = doc_plain s.star tuple h }
 
   rows_by : (tuple : List (Option Fields)) (tuples : List (List (Option Fields))) (t : Bool) → IsPlainTuple tuple → EachIs HasOneLineValues (map (output_of s) (filter (is_kept s) tuples))
       → EachIs HasOneLineValues (map (output_of s) (cond t (tuple ∷ filter (is_kept s) tuples) (filter (is_kept s) tuples)))
@@ -218,9 +219,13 @@ IsPlainPlan-load : GivesPlainArrays → (name json : List ℕ) (r : Result (List
 IsPlainPlan-load gives name json (Ok docs) e = plain_documents docs (recursion_from_All HasOneLineArrays docs (gives json docs e))
 IsPlainPlan-load gives name json (Err n) e = AreLines-json n
 
+IsPlainPlan-read : (s : Select) (t : Bool) → IsPlainPlan (cond t (read s) (refused syntax_line))
+IsPlainPlan-read s true = tt
+IsPlainPlan-read s false = AreLines-syntax
+
 IsPlainPlan-lawful : GivesPlainArrays → (s : Statement) → IsPlainPlan (lawful_plan s)
 IsPlainPlan-lawful gives (statement.Load collection json) = IsPlainPlan-load gives collection json (documents_of json) refl
-IsPlainPlan-lawful gives (statement.Select select) = tt
+IsPlainPlan-lawful gives (statement.Select select) = IsPlainPlan-read select (is_answered select)
 IsPlainPlan-lawful gives (statement.Update collection sets test) = AreLines-syntax
 IsPlainPlan-lawful gives (statement.Delete collection test) = AreLines-syntax
 

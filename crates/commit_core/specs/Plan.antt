@@ -1,5 +1,5 @@
 -- What a text comes to before any store is looked at.
-use Rattle.std.specs.Prelude.{ℕ, List, [], ◌++◌, codes, decimal, Option, Some, None, Result, Ok, Err}
+use Rattle.std.specs.Prelude.{ℕ, ◌==◌, Bool, not, ◌&&◌, List, [], ◌++◌, length, codes, decimal, Option, Some, None, Result, Ok, Err, if◌then◌else◌}
 use Rattle.doc_values.specs.Doc.{Fields}
 use Rattle.doc_flatten.specs.Documents.{documents_of}
 use Rattle.sql_tree.specs.declared.select.Select.{Select}
@@ -9,6 +9,7 @@ use Rattle.sql_grammar.specs.StatementReader.{statement_of}
 use Rattle.type_rules.specs.declared.rule.Rule.{Rule}
 use Rattle.type_rules.specs.declared.rule.Rule.TheVariants.{Name, Group, Kind, Wide}
 use Rattle.type_rules.specs.Fault.{fault_of}
+use Rattle.type_rules.specs.Groups.{is_grouped}
 use Rattle.exec_finish.specs.Answer.{line}
 use Rattle.commit_core.specs.Write.{Write, loads}
 
@@ -42,10 +43,14 @@ abbrev pub load_plan : List ℕ → Result (List Fields) ℕ → Plan
 load_plan collection (Ok documents) = write (loads collection documents)
 load_plan collection (Err number) = refused (json_line number)
 
--- The plan of a statement that keeps the rules. No text spells an update or a deletion yet.
+-- A question is answered so far where it is over one table and not grouped.
+abbrev pub is_answered : Select → Bool
+is_answered s = length s.tables == 1 && not (is_grouped s)
+
+-- The plan of a statement that keeps the rules. Questions that are not answered yet, updates and deletions are refused as what spells no statement.
 abbrev pub lawful_plan : Statement → Plan
 lawful_plan (statement.Load collection json) = load_plan collection (documents_of json)
-lawful_plan (statement.Select select) = read select
+lawful_plan (statement.Select select) = if is_answered select then read select else refused syntax_line
 lawful_plan (statement.Update collection sets test) = refused syntax_line
 lawful_plan (statement.Delete collection test) = refused syntax_line
 

@@ -3,7 +3,11 @@ ghost use Rattle.sql_grammar.specs.StatementReader.{statement_of};
 ghost use Rattle.doc_flatten.specs.Documents.{documents_of};
 ghost use Rattle.type_rules.specs.Fault.{fault_of};
 ghost use Rattle.type_rules.specs.Written.{IsWritten};
-ghost use Rattle.commit_core.specs.Plan.{plan_of, plan_in, load_plan};
+ghost use Rattle.sql_tree.specs.declared.select.Select.{Select};
+ghost use Rattle.sql_tree.specs.declared.statement.Statement.TheVariants as statements;
+ghost use Rattle.type_rules.specs.Plan.{IsPlanOf};
+ghost use Rattle.type_rules.specs.Runnable.{CanBeRun};
+ghost use Rattle.commit_core.specs.Plan.{plan_of, plan_in, lawful_plan, load_plan};
 ghost use Rattle.commit_core.specs.Planned.{StandsFor};
 
 use crate::lines::{json_line, syntax_line, type_line};
@@ -12,6 +16,7 @@ use crate::prepared::Prepared;
 use doc_flatten::{LoadFault, read_docs};
 use doc_values::Utf;
 use spelled_rules::what_is_spelled_is_written;
+use sql_eval::SelectPlan;
 use sql_grammar::{ParseFault, parse};
 use sql_tree::Statement;
 use std::alloc::{AllocError, Global};
@@ -44,10 +49,21 @@ fn plan_statement(alloc: Global, statement: &Statement) -> Result<Planned, Alloc
 {
     match typed(alloc, statement) {
         Ok(Typed::Load { collection, json }) => plan_load(alloc, collection, json.text()),
-        Ok(Typed::Select(question)) => Ok(Planned::Read(question)),
-        Ok(Typed::Update(_) | Typed::Delete(_)) => unreachable!(),
+        Ok(Typed::Select(plan)) => plan_question(alloc, plan),
+        Ok(Typed::Update(_) | Typed::Delete(_)) => Ok(Planned::Refused(syntax_line(alloc)?)),
         Err(TypeFault::Broken(rule)) => Ok(Planned::Refused(type_line(alloc, rule)?)),
         Err(TypeFault::Memory) => Err(AllocError),
+    }
+}
+
+// The plan of a question, if it is one that is answered so far.
+fn plan_question(alloc: Global, plan: SelectPlan) -> Result<Planned, AllocError>
+    ensures ok { IfOk result (λ planned. (question : Select) → IsPlanOf question plan → CanBeRun plan → StandsFor planned (lawful_plan (statements.Select question))) }
+{
+    if plan.from.tables.len() == 1 && !plan.grouped {
+        Ok(Planned::Read(plan))
+    } else {
+        Ok(Planned::Refused(syntax_line(alloc)?))
     }
 }
 

@@ -19,6 +19,7 @@ use Rattle.row_columns.specs.Column.{Values}
 use Rattle.row_columns.specs.Placed.{Tuple, value_in}
 use Rattle.sql_eval.specs.declared.key_plan.KeyPlan.{KeyPlan}
 use Rattle.sql_eval.specs.declared.select_plan.SelectPlan.{SelectPlan}
+use Rattle.sql_eval.specs.Groups.{alone}
 use Rattle.sql_eval.specs.Resolved.{value_over}
 use Rattle.exec_finish.specs.Distinct.{is_alike, distinct}
 use Rattle.exec_finish.specs.Keyed.{HaveKeys, number_order}
@@ -52,11 +53,11 @@ numbered g h xs n e same = numbered_from g h xs xs 0 n same (λ k. ap (slice_get
 
 -- what columns of keys have at a number
 keys_there : (keys : List KeyPlan) (tuples : List Tuple) (k : ℕ) (tuple : Tuple) → slice_get tuples k ≡ Some tuple
-    → map (value_in k) (map (λ (key : KeyPlan). map (λ t. value_over t key.expr) tuples) keys) ≡ map (value_over tuple) (map (λ (key : KeyPlan). key.expr) keys)
+    → map (value_in k) (map (λ (key : KeyPlan). map (λ t. value_over (alone t) key.expr) tuples) keys) ≡ map (value_over (alone tuple)) (map (λ (key : KeyPlan). key.expr) keys)
 keys_there [] tuples k tuple there = refl
 keys_there (key ∷ keys) tuples k tuple there =
-    let first : value_in k (map (λ t. value_over t key.expr) tuples) ≡ value_over tuple key.expr =
-    ap (option_and_then (λ cell. cell)) (slice_get-map (λ t. value_over t key.expr) tuples k ∙ ap (option_map (λ t. value_over t key.expr)) there) in
+    let first : value_in k (map (λ t. value_over (alone t) key.expr) tuples) ≡ value_over (alone tuple) key.expr =
+    ap (option_and_then (λ cell. cell)) (slice_get-map (λ t. value_over (alone t) key.expr) tuples k ∙ ap (option_map (λ t. value_over (alone t) key.expr)) there) in
     let rest = keys_there keys tuples k tuple there in
     λ i. first i ∷ rest i
 
@@ -77,10 +78,10 @@ all_below n k d lt =
 
 -- the rows of all numbers are those of the tuples
 pub rows_all : (p : SelectPlan) (tuples : List Tuple) (n : ℕ) → n ≡ length tuples
-    → rows_at p tuples (map (λ (key : KeyPlan). map (λ t. value_over t key.expr) tuples) p.keys) (range_with_len 0 n) ≡ map (row_by p) tuples
+    → rows_at p tuples (map (λ (key : KeyPlan). map (λ t. value_over (alone t) key.expr) tuples) p.keys) (range_with_len 0 n) ≡ map (row_by p) tuples
 rows_all p tuples n e =
-    numbered (row_at p tuples (map (λ (key : KeyPlan). map (λ t. value_over t key.expr) tuples) p.keys)) (row_by p) tuples n e
-    (λ k tuple there. let here = get_or_from_slice_get tuples k tuple [] there in λ i. record { items = map (value_over (here i)) p.items; doc = cond p.star (document_of (here i)) None; keys = keys_there p.keys tuples k tuple there i })
+    numbered (row_at p tuples (map (λ (key : KeyPlan). map (λ t. value_over (alone t) key.expr) tuples) p.keys)) (row_by p) tuples n e
+    (λ k tuple there. let here = get_or_from_slice_get tuples k tuple [] there in λ i. record { items = map (value_over (alone (here i))) p.items; doc = cond p.star (document_of (here i)) None; keys = keys_there p.keys tuples k tuple there i })
 
 -- ---- numbers of rows that are alike
 

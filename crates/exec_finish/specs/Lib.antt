@@ -1,5 +1,6 @@
 pub mod Plain
 pub mod Numbered
+pub mod Ready
 pub mod Escapes
 pub mod Distinct
 pub mod Order

@@ -1,44 +1,57 @@
 ghost use Rattle.std.specs.Prelude.{◌≡◌, All, []};
-ghost use Rattle.sql_eval.specs.Widths.{CanEvaluate};
 ghost use Rattle.exec_finish.specs.Distinct.{is_alike};
 ghost use Rattle.exec_finish.specs.Fed.{row_fed};
-ghost use Rattle.exec_finish.specs.Plain.{plain_row};
+ghost use Rattle.exec_finish.specs.Plain.{group_row};
+ghost use Rattle.exec_finish.specs.Ready.{exprs_of, IsReady};
 ghost use Rattle.exec_finish.specs.SameRows.{is_alike_equivalence, fed_alike};
 ghost use Rattle.std.specs.Cmp.{partial_equiv_from_equiv};
 
 use crate::feeding::{feed_document, feed_items};
 use crate::likeness::{have_same_document, have_same_items};
+use crate::out_item::OutItem;
 use crate::values::document_of;
-use sql_eval::{SelectPlan, Sides};
+use sql_eval::Group;
 use std::hash::{Hash, Hasher};
 use std::marker::Model;
 
 /// A row as a key of a set, which is equal to another where they are alike: its keys do not count. Its items are lent.
 #[derive(Drop)]
 pub(crate) struct Alike<'a> {
-    plan: &'a SelectPlan,
-    tuple: Sides<'a>,
+    star: bool,
+    items: &'a [OutItem<'a>],
+    number: u32,
+    group: Group<'a>,
 }
 
 impl<'a> Model for Alike<'a> {
     ghost use Rattle.std.specs.Prelude.{All, []};
     ghost use Rattle.row_columns.specs.Contents.{Output};
-    ghost use Rattle.sql_eval.specs.Widths.{CanEvaluate};
-    ghost use Rattle.exec_finish.specs.Plain.{plain_row};
+    ghost use Rattle.exec_finish.specs.Plain.{group_row};
+    ghost use Rattle.exec_finish.specs.Ready.{exprs_of, IsReady};
 
     ghost Value = { Output };
 
-    ghost view = { λ a. plain_row a.plan.now.star a.plan.now.items [] a.tuple };
+    ghost view = { λ a. group_row a.star (exprs_of a.items.now) [] a.group.tuples };
 
-    ghost invariant = { λ a. All (CanEvaluate a.tuple) a.plan.now.items };
+    ghost invariant = { λ a. All (λ item. IsReady item a.number a.group) a.items.now };
 }
 
 impl<'a> Alike<'a> {
-    pub(crate) fn new(plan: &'a SelectPlan, tuple: Sides<'a>) -> Alike<'a>
-        requires { All (CanEvaluate tuple) plan.now.items }
-        ensures exact { result ≡ plain_row plan.now.star plan.now.items [] tuple.entry }
+    pub(crate) fn new(
+        star: bool,
+        items: &'a [OutItem<'a>],
+        number: u32,
+        group: Group<'a>,
+    ) -> Alike<'a>
+        requires { All (λ item. IsReady item number group) items.now }
+        ensures exact { result ≡ group_row star (exprs_of items.now) [] group.entry.tuples }
     {
-        Alike { plan, tuple }
+        Alike {
+            star,
+            items,
+            number,
+            group,
+        }
     }
 }
 
@@ -48,13 +61,17 @@ impl<'a> PartialEq for Alike<'a> {
     ghost laws = { partial_equiv_from_equiv is_alike_equivalence };
 
     fn eq(&self, other: &Alike<'a>) -> bool {
-        let items = self.plan.items.as_slice();
-        let others = other.plan.items.as_slice();
-        have_same_items(items, &self.tuple, others, &other.tuple)
-            && have_same_document(
-                document_of(self.plan.star, &self.tuple),
-                document_of(other.plan.star, &other.tuple),
-            )
+        have_same_items(
+            self.items,
+            self.number,
+            &self.group,
+            other.items,
+            other.number,
+            &other.group,
+        ) && have_same_document(
+            document_of(self.star, &self.group),
+            document_of(other.star, &other.group),
+        )
     }
 }
 
@@ -68,7 +85,7 @@ impl<'a> Hash for Alike<'a> {
     ghost respects_eq = { fed_alike };
 
     fn hash<H: Hasher>(&self, state: &mut H) {
-        feed_items(self.plan.items.as_slice(), &self.tuple, state);
-        feed_document(document_of(self.plan.star, &self.tuple), state);
+        feed_items(self.items, self.number, &self.group, state);
+        feed_document(document_of(self.star, &self.group), state);
     }
 }

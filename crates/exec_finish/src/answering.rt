@@ -1,5 +1,5 @@
 ghost use Rattle.std.specs.Prelude.{◌≡◌, IfOk, All, map};
-ghost use Rattle.sql_eval.specs.Widths.{CanEvaluate};
+ghost use Rattle.sql_eval.specs.Widths.{CanEvaluateAlone};
 ghost use Rattle.exec_finish.specs.Answer.{finished};
 ghost use Rattle.exec_finish.specs.Plain.{row_by};
 
@@ -16,8 +16,8 @@ pub fn plain_answer<'a>(
     plan: &'a SelectPlan,
     tuples: &'a Tuples,
 ) -> Result<Bytes, AllocError>
-    requires items { All (λ tuple. All (CanEvaluate tuple) plan.now.items) tuples.now }
-    requires keys { All (λ tuple. All (λ key. CanEvaluate tuple key.expr) plan.now.keys) tuples.now }
+    requires items { All (λ tuple. All (CanEvaluateAlone tuple) plan.now.items) tuples.now }
+    requires keys { All (λ tuple. All (λ key. CanEvaluateAlone tuple key.expr) plan.now.keys) tuples.now }
     ensures ok { IfOk result (λ text. text ≡ finished plan.now.distinct (map (λ key. key.descending) plan.now.keys) plan.now.limit plan.now.star (map (row_by plan.now) tuples.now)) }
 {
     let rows = plain_values(alloc, plan, tuples)?;

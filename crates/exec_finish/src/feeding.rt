@@ -1,20 +1,26 @@
 ghost use Rattle.std.specs.Prelude.{◌≡◌, All, fold, flat_map, map, option_copied, option_map, unwrap_or, []};
 ghost use Rattle.row_columns.specs.Lent.{owned};
 ghost use Rattle.sql_eval.specs.Resolved.{value_over};
-ghost use Rattle.sql_eval.specs.Widths.{CanEvaluate};
 ghost use Rattle.exec_finish.specs.Fed.{value_fed, field_fed};
+ghost use Rattle.exec_finish.specs.Ready.{exprs_of, IsReady};
 
+use crate::out_item::OutItem;
 use doc_values::{Doc, Value};
-use sql_eval::{Expr, Sides, ValueRef, value};
+use sql_eval::{Group, ValueRef};
 use std::hash::{Hash, Hasher};
 
-/// Feeds the values of items over a tuple to a hasher.
-pub(crate) fn feed_items<'a, H: Hasher>(items: &'a [Expr], tuple: &Sides<'a>, state: &mut H)
-    requires { All (CanEvaluate tuple.now) items.now }
-    ensures exact { state.new ≡ fold H.write state.old (flat_map value_fed (map (value_over tuple.now) items.now)) }
+/// Feeds the values of items over the group of a number to a hasher.
+pub(crate) fn feed_items<'a, H: Hasher>(
+    items: &'a [OutItem<'a>],
+    number: u32,
+    group: &Group<'a>,
+    state: &mut H,
+)
+    requires { All (λ item. IsReady item number group.now) items.now }
+    ensures exact { state.new ≡ fold H.write state.old (flat_map value_fed (map (value_over group.now.tuples) (exprs_of items.now))) }
 {
     for item in items {
-        feed_value(value(item, tuple), state);
+        feed_value(item.value(number, group), state);
     }
 }
 

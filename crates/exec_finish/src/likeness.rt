@@ -4,29 +4,31 @@ ghost use Rattle.std.specs.Option.{option_eq};
 ghost use Rattle.std.specs.Cmp.Lexicographic.{pointwise};
 ghost use Rattle.doc_values.specs.Order.{total_order};
 ghost use Rattle.sql_eval.specs.Resolved.{value_over};
-ghost use Rattle.sql_eval.specs.Widths.{CanEvaluate};
 ghost use Rattle.exec_finish.specs.Distinct.{is_same_field};
+ghost use Rattle.exec_finish.specs.Ready.{exprs_of, IsReady};
 
-use crate::lent_order::order;
+use crate::out_item::OutItem;
 use doc_values::{Doc, Value};
-use sql_eval::{Expr, Sides, ValueRef, value};
+use sql_eval::{Group, ValueRef, order};
 
-/// Whether items over a tuple and others over another have the same values.
+/// Whether items over the group of a number and others over that of another have the same values.
 pub(crate) fn have_same_items<'a>(
-    items: &'a [Expr],
-    tuple: &Sides<'a>,
-    others: &'a [Expr],
-    other: &Sides<'a>,
+    items: &'a [OutItem<'a>],
+    number: u32,
+    group: &Group<'a>,
+    others: &'a [OutItem<'a>],
+    other_number: u32,
+    other: &Group<'a>,
 ) -> bool
-    requires items { All (CanEvaluate tuple.now) items.now }
-    requires others { All (CanEvaluate other.now) others.now }
-    ensures exact { result ≡ pointwise (eq_by_cmp total_order) (map (value_over tuple.now) items.now) (map (value_over other.now) others.now) }
+    requires items { All (λ item. IsReady item number group.now) items.now }
+    requires others { All (λ item. IsReady item other_number other.now) others.now }
+    ensures exact { result ≡ pointwise (eq_by_cmp total_order) (map (value_over group.now.tuples) (exprs_of items.now)) (map (value_over other.now.tuples) (exprs_of others.now)) }
 {
     if items.len() != others.len() {
         return false;
     }
     for (item, one) in items.iter().zip(others) {
-        if order(value(item, tuple), value(one, other)).is_ne() {
+        if order(item.value(number, group), one.value(other_number, other)).is_ne() {
             return false;
         }
     }

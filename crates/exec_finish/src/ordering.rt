@@ -8,8 +8,7 @@ ghost use Rattle.exec_finish.specs.Keyed.{HaveKeys, number_order};
 ghost use Rattle.exec_finish.specs.Order.{ordered};
 
 use crate::first_rows::first_in_order;
-use crate::lent_order::order;
-use sql_eval::{CellColumn, KeyPlan, ValueRef};
+use sql_eval::{CellColumn, KeyPlan, ValueRef, order};
 use std::alloc::{AllocError, Global};
 use std::cmp::Ordering;
 

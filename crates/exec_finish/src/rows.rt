@@ -1,7 +1,8 @@
 ghost use Rattle.std.specs.Prelude.{◌≡◌, ◌<◌, All, length};
-ghost use Rattle.sql_eval.specs.Widths.{CanEvaluate};
 ghost use Rattle.exec_finish.specs.Numbered.{rows_at};
+ghost use Rattle.exec_finish.specs.Ready.{exprs_of, IsReadyOver};
 
+use crate::out_item::OutItem;
 use sql_eval::{CellColumn, SelectPlan, Tuples};
 use std::marker::Model;
 
@@ -11,21 +12,22 @@ use std::marker::Model;
 pub struct Rows<'a> {
     plan: &'a SelectPlan,
     tuples: &'a Tuples,
+    items: Vec<OutItem<'a>>,
     columns: Vec<CellColumn>,
     numbers: Vec<u32>,
 }
 
 impl<'a> Model for Rows<'a> {
-    ghost use Rattle.std.specs.Prelude.{◌<◌, List, All, length};
+    ghost use Rattle.std.specs.Prelude.{◌≡◌, ◌<◌, List, All, length};
     ghost use Rattle.row_columns.specs.Contents.{Output};
-    ghost use Rattle.sql_eval.specs.Widths.{CanEvaluate};
     ghost use Rattle.exec_finish.specs.Numbered.{rows_at};
+    ghost use Rattle.exec_finish.specs.Ready.{exprs_of, IsReadyOver};
 
     ghost Value = { List Output };
 
     ghost view = { λ r. rows_at r.plan.now r.tuples.now r.columns.items r.numbers.items };
 
-    ghost invariant = { λ r. All (λ tuple. All (CanEvaluate tuple) r.plan.now.items) r.tuples.now × All (λ n. n < length r.tuples.now) r.numbers.items };
+    ghost invariant = { λ r. (exprs_of r.items.items ≡ r.plan.now.items) × All (IsReadyOver r.tuples.now) r.items.items × All (λ n. n < length r.tuples.now) r.numbers.items };
 }
 
 impl<'a> Rows<'a> {
@@ -33,33 +35,46 @@ impl<'a> Rows<'a> {
     pub(crate) fn new(
         plan: &'a SelectPlan,
         tuples: &'a Tuples,
+        items: Vec<OutItem<'a>>,
         columns: Vec<CellColumn>,
         numbers: Vec<u32>,
     ) -> Rows<'a>
-        requires items { All (λ tuple. All (CanEvaluate tuple) plan.now.items) tuples.now }
+        requires exprs { exprs_of items.items ≡ plan.now.items }
+        requires items { All (IsReadyOver tuples.now) items.items }
         requires within { All (λ n. n < length tuples.now) numbers.items }
         ensures exact { result ≡ rows_at plan.now tuples.now columns.items numbers.items }
     {
         Rows {
             plan,
             tuples,
+            items,
             columns,
             numbers,
         }
     }
 
     /// What the rows are read off.
-    pub(crate) fn into_parts(self) -> (&'a SelectPlan, &'a Tuples, Vec<CellColumn>, Vec<u32>)
-        ensures exact { self.entry ≡ rows_at result.0.now result.1.now result.2.items result.3.items }
-        ensures items { All (λ tuple. All (CanEvaluate tuple) result.0.now.items) result.1.now }
-        ensures within { All (λ n. n < length result.1.now) result.3.items }
+    pub(crate) fn into_parts(
+        self,
+    ) -> (
+        &'a SelectPlan,
+        &'a Tuples,
+        Vec<OutItem<'a>>,
+        Vec<CellColumn>,
+        Vec<u32>,
+    )
+        ensures exact { self.entry ≡ rows_at result.0.now result.1.now result.3.items result.4.items }
+        ensures exprs { exprs_of result.2.items ≡ result.0.now.items }
+        ensures items { All (IsReadyOver result.1.now) result.2.items }
+        ensures within { All (λ n. n < length result.1.now) result.4.items }
     {
         let Rows {
             plan,
             tuples,
+            items,
             columns,
             numbers,
         } = self;
-        (plan, tuples, columns, numbers)
+        (plan, tuples, items, columns, numbers)
     }
 }

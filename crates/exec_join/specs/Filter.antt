@@ -4,6 +4,7 @@ use Rattle.sql_eval.specs.declared.expr.Expr.{Expr}
 use Rattle.sql_eval.specs.declared.truth_value.Truth.{Truth}
 use Rattle.sql_eval.specs.declared.truth_value.Truth.TheVariants.{True, False, Unknown}
 use Rattle.sql_eval.specs.Truth.{truth_of}
+use Rattle.sql_eval.specs.Groups.{alone}
 use Rattle.sql_eval.specs.Resolved.{value_over}
 use Rattle.row_columns.specs.Contents.{Cells}
 
@@ -15,4 +16,4 @@ keeps Unknown = false
 
 -- The tuples of which a test is true, in their order.
 abbrev pub filtered : Expr → List (List (Option Cells)) → List (List (Option Cells))
-filtered test tuples = filter (λ tuple. keeps (truth_of (value_over tuple test))) tuples
+filtered test tuples = filter (λ tuple. keeps (truth_of (value_over (alone tuple) test))) tuples

@@ -7,6 +7,7 @@ use Rattle.doc_values.specs.declared.col_ref.ColRef.{ColRef}
 use Rattle.sql_tree.specs.declared.select.Select.{Select}
 use Rattle.row_columns.specs.Contents.{Cells, Output}
 use Rattle.sql_eval.specs.Meaning.{given}
+use Rattle.sql_eval.specs.Groups.{alone}
 use Rattle.sql_eval.specs.Resolved.{value_over}
 use Rattle.sql_eval.specs.Truth.{truth_of}
 use Rattle.sql_eval.specs.declared.expr.Expr.{Expr}
@@ -14,7 +15,7 @@ use Rattle.sql_eval.specs.declared.select_plan.SelectPlan.{SelectPlan}
 use Rattle.exec_join.specs.Filter.{keeps}
 use Rattle.exec_finish.specs.Answer.{finished}
 use Rattle.exec_finish.specs.Plain.{plain_row}
-pub use Rattle.query_meaning.specs.Question.{alone}
+pub use Rattle.query_meaning.specs.Question.{one_sided}
 use Rattle.query_meaning.specs.Question.{tuples_of, is_kept, answer_among}
 
 -- What is read of a document: a value, or NULL, for each column, and the document itself where whole documents are asked for.
@@ -39,7 +40,7 @@ at_most (Some most) xs = take most xs
 
 -- The documents of one table of which the answer to a question needs rows: of those that its condition keeps the first, as many as it needs.
 abbrev pub documents_needed : Select → List Fields → List Fields
-documents_needed s documents = at_most (most_needed s.distinct (map (λ k. k.descending) s.keys) s.limit) (filter (λ d. is_kept s (alone d)) documents)
+documents_needed s documents = at_most (most_needed s.distinct (map (λ k. k.descending) s.keys) s.limit) (filter (λ d. is_kept s (one_sided d)) documents)
 
 -- The rows that are read for a question under the references of each table: of one table those of the documents that its answer needs, of several tables those of all.
 abbrev pub rows_under : List (List ColRef) → Select → List (List Fields) → List (List Cells)
@@ -54,12 +55,12 @@ Serve references s = (tables others : List (List Fields)) → length tables ≡ 
 
 -- The condition of a plan keeps a tuple of rows: it is true there, or there is none.
 abbrev pub passes : Option Expr → List (Option Cells) → Bool
-passes test tuple = option_map_or (λ e. keeps (truth_of (value_over tuple e))) test true
+passes test tuple = option_map_or (λ e. keeps (truth_of (value_over (alone tuple) e))) test true
 
 -- The rows that are read of the documents of one table for a plan over columns, whose condition needs no whole document.
 abbrev pub rows_alone : SelectPlan → List ColRef → List Fields → List Cells
 rows_alone p columns documents =
-    map (cells_under columns p.star) (at_most (most_needed p.distinct (map (λ k. k.descending) p.keys) p.limit) (filter (λ d. passes p.test (alone (cells_under columns false d))) documents))
+    map (cells_under columns p.star) (at_most (most_needed p.distinct (map (λ k. k.descending) p.keys) p.limit) (filter (λ d. passes p.test (one_sided (cells_under columns false d))) documents))
 
 -- The row of an answer for a tuple of rows, by a plan.
 abbrev pub output_by : SelectPlan → List (Option Cells) → Output

@@ -12,12 +12,12 @@ ghost use Rattle.query_meaning.specs.Runs.{AreRowsFor, CanBeTested, CanRunOver};
 
 use sql_eval::resolving_keeps_meaning;
 
-/// Law: a plan of a question answers, over the rows that are read of documents under its references, what the question
+/// Law: a plan of a question over one table answers, over the rows that are read of documents under its references, what the question
 /// means over the documents; so what is read under them decides the answer.
 pub fn plans_keep_meaning()
-    ensures law { (question : Select) (plan : SelectPlan) → IsPlanOf question plan → (tables : List (List Fields)) → length tables ≡ length plan.refs
+    ensures law { (question : Select) (plan : SelectPlan) → IsPlanOf question plan → length plan.refs ≡ 1 → (tables : List (List Fields)) → length tables ≡ length plan.refs
         → answer_of_plan plan (rows_under plan.refs question tables) ≡ answer_among question tables }
-    ensures serve { (question : Select) (plan : SelectPlan) → IsPlanOf question plan → Serve plan.refs question }
+    ensures serve { (question : Select) (plan : SelectPlan) → IsPlanOf question plan → length plan.refs ≡ 1 → Serve plan.refs question }
 {
     resolving_keeps_meaning();
 }
@@ -30,10 +30,10 @@ pub fn plans_read_what_is_asked()
     resolving_keeps_meaning();
 }
 
-/// Law: the condition of a plan of a question that can be run can be computed over each row whose numbers are those of
+/// Law: the condition of a plan of a question over one table that can be run can be computed over each row whose numbers are those of
 /// documents, and over lists of such rows, one for each table, the plan can be run.
 pub fn plans_can_be_run()
-    ensures tested { (question : Select) (plan : SelectPlan) → IsPlanOf question plan → CanBeRun plan → CanBeTested plan }
-    ensures law { (question : Select) (plan : SelectPlan) → IsPlanOf question plan → CanBeRun plan → (tables : List (List Cells)) → AreRowsFor plan.refs tables
+    ensures tested { (question : Select) (plan : SelectPlan) → IsPlanOf question plan → CanBeRun plan → length plan.refs ≡ 1 → CanBeTested plan }
+    ensures law { (question : Select) (plan : SelectPlan) → IsPlanOf question plan → CanBeRun plan → length plan.refs ≡ 1 → (tables : List (List Cells)) → AreRowsFor plan.refs tables
         → CanRunOver plan tables }
 {}

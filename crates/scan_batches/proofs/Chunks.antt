@@ -6,7 +6,7 @@ use Rattle.doc_values.specs.declared.col_ref.ColRef.{ColRef}
 use Rattle.row_columns.specs.Contents.{Cells}
 use Rattle.row_versions.specs.declared.version_id.VersionId.{VersionId}
 use Rattle.sql_eval.specs.declared.expr.Expr.{Expr}
-use Rattle.query_meaning.specs.Plans.{alone, at_most, cells_under, passes}
+use Rattle.query_meaning.specs.Plans.{one_sided, at_most, cells_under, passes}
 use Rattle.layout_store.specs.Storage.{Storage}
 use Rattle.scan_batches.specs.Scans.{documents_below, has_enough}
 use Rattle.scan_batches.specs.Reading.{document_in, room_for, wanted}
@@ -20,7 +20,7 @@ twice-made f g (x ∷ xs) = ap (λ ys. f (g x) ∷ ys) (twice-made f g xs)
 module _ (s : Storage) (at : ℕ) (refs : List ColRef) (whole : Bool) (test : Option Expr) (most : Option ℕ) where
   -- Whether the test keeps a document.
   abbrev keep : Fields → Bool
-  keep d = passes test (alone (cells_under refs false d))
+  keep d = passes test (one_sided (cells_under refs false d))
 
   pub chunk : (from to : ℕ) (rows new : List Cells) (seen kept few : List VersionId) → documents_below s at to ≡ documents_below s at from ++ map (document_in s) seen
       → kept ≡ filter (λ v. keep (document_in s v)) seen → few ≡ at_most (room_for most (length rows)) kept → new ≡ rows ++ map (λ v. cells_under refs whole (document_in s v)) few

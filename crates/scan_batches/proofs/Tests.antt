@@ -15,7 +15,7 @@ use Rattle.row_versions.proofs.Places.{get-within}
 use Rattle.sql_eval.specs.Operators.{comparison}
 use Rattle.sql_eval.specs.declared.expr.Expr.{Expr}
 use Rattle.exec_join.specs.Filter.{keeps}
-use Rattle.query_meaning.specs.Plans.{alone, cells_under, passes}
+use Rattle.query_meaning.specs.Plans.{one_sided, cells_under, passes}
 use Rattle.layout_store.specs.Storage.{Storage}
 use Rattle.scan_batches.specs.Reading.{document_in, path_for, values_for}
 use Rattle.scan_batches.proofs.ValuesRead.{cell-of}
@@ -36,8 +36,8 @@ path-at attributes refs paths place path e lt is =
 
 -- a comparison of a column is the test on the row
 pub column-keeps : (s : Storage) (refs : List ColRef) (test : Expr) (op : CompareOp) (place : ℕ) (literal : Value) (column : ColRef) → slice_get refs place ≡ Some column
-    → ((row : Cells) → passes (Some test) (alone row) ≡ keeps (comparison op (option_and_then (λ cell. cell) (slice_get row.cells place)) (Some literal)))
-    → (v : VersionId) → keeps (comparison op (values_for s column v) (Some literal)) ≡ passes (Some test) (alone (cells_under refs false (document_in s v)))
+    → ((row : Cells) → passes (Some test) (one_sided row) ≡ keeps (comparison op (option_and_then (λ cell. cell) (slice_get row.cells place)) (Some literal)))
+    → (v : VersionId) → keeps (comparison op (values_for s column v) (Some literal)) ≡ passes (Some test) (one_sided (cells_under refs false (document_in s v)))
 column-keeps s refs test op place literal column at says v =
     ap (λ (o : Option Value). keeps (comparison op o (Some literal))) (sym (cell-of refs (document_in s v) place column at)) ∙ sym (says (cells_under refs false (document_in s v)))
 
@@ -53,7 +53,7 @@ all-pass [] = refl
 all-pass (x ∷ xs) = ap (λ ys. x ∷ ys) (all-pass xs)
 
 -- the tuple of a row of the one table
-pub tuple-of : {A : Type 0} (row_of : A → Cells) (all : List A) (tables : List (List Cells)) (place : ℕ) (a : A) → tables ≡ map row_of all ∷ [] → slice_get all place ≡ Some a → tuple_at tables (alone_at place) ≡ alone (row_of a)
+pub tuple-of : {A : Type 0} (row_of : A → Cells) (all : List A) (tables : List (List Cells)) (place : ℕ) (a : A) → tables ≡ map row_of all ∷ [] → slice_get all place ≡ Some a → tuple_at tables (alone_at place) ≡ one_sided (row_of a)
 tuple-of row_of all tables place a e at =
     ap (λ (ts : List (List Cells)). tuple_at ts (alone_at place)) e ∙ ap (λ (o : Option Cells). o ∷ []) (slice_get-map row_of all place ∙ ap (option_map row_of) at)
 

@@ -6,7 +6,7 @@ use Rattle.doc_values.specs.declared.col_ref.ColRef.{ColRef}
 use Rattle.row_columns.specs.Contents.{Cells}
 use Rattle.sql_eval.specs.Meaning.{given}
 use Rattle.sql_eval.specs.declared.expr.Expr.{Expr}
-use Rattle.query_meaning.specs.Plans.{alone, at_most, cells_under, passes}
+use Rattle.query_meaning.specs.Plans.{one_sided, at_most, cells_under, passes}
 use Rattle.attr_catalog.specs.Attribute.{Attribute}
 use Rattle.attr_catalog.specs.Paths.{lawful_path}
 use Rattle.attr_catalog.specs.declared.way.Way.{Way}
@@ -34,4 +34,4 @@ room_for (Some most) rows = Some (most - rows)
 
 -- What is wanted of the documents that rows below a number show.
 abbrev pub wanted : Storage → ℕ → List ColRef → Bool → Option Expr → Option ℕ → ℕ → List Cells
-wanted s at refs star test most bound = map (cells_under refs star) (at_most most (filter (λ d. passes test (alone (cells_under refs false d))) (documents_below s at bound)))
+wanted s at refs star test most bound = map (cells_under refs star) (at_most most (filter (λ d. passes test (one_sided (cells_under refs false d))) (documents_below s at bound)))

@@ -5,8 +5,8 @@ use Rattle.doc_values.specs.Doc.{Fields}
 use Rattle.doc_values.specs.declared.col_ref.ColRef.{ColRef}
 use Rattle.row_columns.specs.Contents.{Cells}
 use Rattle.sql_eval.specs.declared.expr.Expr.{Expr}
-use Rattle.sql_eval.specs.Widths.{CanEvaluate}
-use Rattle.query_meaning.specs.Plans.{alone, at_most, cells_under, passes}
+use Rattle.sql_eval.specs.Widths.{CanEvaluateAlone}
+use Rattle.query_meaning.specs.Plans.{one_sided, at_most, cells_under, passes}
 use Rattle.query_meaning.specs.Runs.{IsStorableRow}
 use Rattle.layout_store.specs.Storage.{Storage}
 use Rattle.layout_store.specs.Shows.{shown}
@@ -31,7 +31,7 @@ documents_below s at bound = map (λ row. row.document) (rows_below (shown s at)
 
 -- Of some documents those that are wanted: the first that the test keeps, as many as are needed at most.
 abbrev pub documents_wanted : ScanOf → List Fields → List Fields
-documents_wanted scan documents = at_most scan.most (filter (λ d. passes scan.test (alone (cells_under scan.refs false d))) documents)
+documents_wanted scan documents = at_most scan.most (filter (λ d. passes scan.test (one_sided (cells_under scan.refs false d))) documents)
 
 -- The rows that are wanted of what the rows show that the scan has passed.
 abbrev pub rows_wanted : Storage → ScanOf → List Cells
@@ -39,7 +39,7 @@ rows_wanted s scan = map (cells_under scan.refs scan.star) (documents_wanted sca
 
 -- A test, if there is one, can be computed over each row whose numbers are those of documents.
 abbrev pub CanBeTested : Option Expr → Type 0
-CanBeTested test = (row : Cells) → IsStorableRow row → IfSome test (CanEvaluate (alone row))
+CanBeTested test = (row : Cells) → IsStorableRow row → IfSome test (CanEvaluateAlone (one_sided row))
 
 -- The scan as it began: no row is passed or read.
 abbrev pub begun_anew : ScanOf → ScanOf

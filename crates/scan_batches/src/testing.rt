@@ -6,12 +6,13 @@ ghost use Rattle.doc_values.specs.declared.col_ref.ColRef.{ColRef as ColRefOf};
 ghost use Rattle.attr_catalog.specs.Paths.{IsLawful};
 ghost use Rattle.row_columns.specs.Contents.{Cells};
 ghost use Rattle.row_columns.specs.Placed.{tuple_at, alone_at};
+ghost use Rattle.sql_eval.specs.Groups.{alone};
 ghost use Rattle.sql_eval.specs.Operators.{comparison};
 ghost use Rattle.sql_eval.specs.Resolved.{value_over};
 ghost use Rattle.sql_eval.specs.Truth.{truth_of};
-ghost use Rattle.sql_eval.specs.Widths.{CanEvaluate};
+ghost use Rattle.sql_eval.specs.Widths.{CanEvaluateAlone};
 ghost use Rattle.exec_join.specs.Filter.{keeps};
-ghost use Rattle.query_meaning.specs.Plans.{alone, cells_under, passes};
+ghost use Rattle.query_meaning.specs.Plans.{one_sided, cells_under, passes};
 ghost use Rattle.scan_batches.specs.Scans.{CanBeTested};
 ghost use Rattle.scan_batches.specs.Reading.{document_in, path_for, values_for};
 
@@ -20,9 +21,9 @@ use crate::read_rows::ReadRows;
 use attr_catalog::Path;
 use doc_values::{ColRef, ValueRef, documents_are_maps};
 use layout_store::Layout;
-use row_columns::{Place, Sides, TableRows};
+use row_columns::{Place, TableRows};
 use row_versions::VersionId;
-use sql_eval::{ColumnTest, Expr, Truth, truth};
+use sql_eval::{ColumnTest, Expr, Group, Truth, truth};
 use std::alloc::{AllocError, Global};
 use std::cmp::Ordering;
 
@@ -40,7 +41,7 @@ pub(crate) fn kept(
     requires tested { CanBeTested test.now }
     requires standing { All (λ v. v.0 < length layout.now.history.versions) versions.items }
     requires few { length versions.items ≤ 1024 }
-    ensures ok { IfOk result (λ kept. kept.items ≡ filter (λ v. passes test.now (alone (cells_under refs.now false (document_in layout.now v)))) versions.items) }
+    ensures ok { IfOk result (λ kept. kept.items ≡ filter (λ v. passes test.now (one_sided (cells_under refs.now false (document_in layout.now v)))) versions.items) }
 {
     match test {
         None => Ok(versions),
@@ -61,7 +62,7 @@ fn kept_by(
     requires tested { CanBeTested (Some test.now) }
     requires standing { All (λ v. v.0 < length layout.now.history.versions) versions.now }
     requires few { length versions.now ≤ 1024 }
-    ensures ok { IfOk result (λ kept. kept.items ≡ filter (λ v. passes (Some test.now) (alone (cells_under refs.now false (document_in layout.now v)))) versions.now) }
+    ensures ok { IfOk result (λ kept. kept.items ≡ filter (λ v. passes (Some test.now) (one_sided (cells_under refs.now false (document_in layout.now v)))) versions.now) }
 {
     match column_tested(paths.len(), test) {
         Some(compared) => {
@@ -74,7 +75,7 @@ fn kept_by(
 
 // The comparison of one column of the table that a test is, if it is one.
 fn column_tested(columns: usize, test: &Expr) -> Option<ColumnTest<'_>>
-    ensures exact { IfSome result (λ t. (row : Cells) → passes (Some test.now) (alone row) ≡ keeps (comparison t.op (option_and_then (λ cell. cell) (slice_get row.cells t.slot.column)) (Some (owned t.literal)))) }
+    ensures exact { IfSome result (λ t. (row : Cells) → passes (Some test.now) (one_sided row) ≡ keeps (comparison t.op (option_and_then (λ cell. cell) (slice_get row.cells t.slot.column)) (Some (owned t.literal)))) }
     ensures within { IfSome result (λ t. t.slot.column < columns) }
 {
     let test = ColumnTest::of(test)?;
@@ -154,14 +155,15 @@ fn kept_by_any(
     requires tested { CanBeTested (Some test.now) }
     requires standing { All (λ v. v.0 < length layout.now.history.versions) versions.now }
     requires few { length versions.now ≤ 1024 }
-    ensures ok { IfOk result (λ kept. kept.items ≡ filter (λ v. passes (Some test.now) (alone (cells_under refs.now false (document_in layout.now v)))) versions.now) }
+    ensures ok { IfOk result (λ kept. kept.items ≡ filter (λ v. passes (Some test.now) (one_sided (cells_under refs.now false (document_in layout.now v)))) versions.now) }
 {
     documents_are_maps();
     layout.keeps_the_rules();
     let tables = rows_tested(alloc, layout, refs, paths, versions)?;
     let mut kept = Vec::new(alloc);
     for row in 0..versions.len() {
-        push_if(is_true(test, &tables, row as u32), versions[row], &mut kept)?;
+        let keep = is_true(alloc, test, &tables, row as u32)?;
+        push_if(keep, versions[row], &mut kept)?;
     }
     Ok(kept)
 }
@@ -186,15 +188,20 @@ fn rows_tested(
 }
 
 // Whether a test is true of a row of one table.
-fn is_true(test: &Expr, tables: &[TableRows], row: u32) -> bool
-    requires { CanEvaluate (tuple_at tables.now (alone_at row)) test.now }
-    ensures exact { result ≡ keeps (truth_of (value_over (tuple_at tables.now (alone_at row)) test.now)) }
+fn is_true(
+    alloc: Global,
+    test: &Expr,
+    tables: &[TableRows],
+    row: u32,
+) -> Result<bool, AllocError>
+    requires { CanEvaluateAlone (tuple_at tables.now (alone_at row)) test.now }
+    ensures ok { IfOk result (λ kept. kept ≡ keeps (truth_of (value_over (alone (tuple_at tables.now (alone_at row))) test.now))) }
 {
     let place = Place {
         rows: [row, u32::MAX, u32::MAX],
     };
-    match truth(test, &Sides::new(tables, place)) {
-        Truth::True => true,
-        Truth::False | Truth::Unknown => false,
+    match truth(test, &Group::alone(alloc, tables, &place))? {
+        Truth::True => Ok(true),
+        Truth::False | Truth::Unknown => Ok(false),
     }
 }

@@ -1,5 +1,5 @@
 -- The equations of what expressions mean and need.
-use Rattle.std.proofs.Common.{◌≡◌, ℕ, ◌≤◌, ℤ, neg_ℤ, Bool, true, false, ◌&&◌, List, [], ◌∷◌, map, sum, Option, Some, None, option_map, if◌then◌else◌, sym, ap, ◌∙◌, refl}
+use Rattle.std.proofs.Common.{◌≡◌, ℕ, ◌≤◌, ℤ, neg_ℤ, Bool, true, false, ◌&&◌, ◌||◌, List, [], ◌∷◌, map, sum, Option, Some, None, option_map, if◌then◌else◌, sym, ap, ◌∙◌, refl}
 use Rattle.std.specs.Prelude.{IfSome}
 use Rattle.std.proofs.Math.Nat.{le_trans}
 use Rattle.std.proofs.Math.Pow.{pow_mono}
@@ -34,6 +34,10 @@ width-Minus k e = ap (width_of k) (sym (expr.rolls-Minus e)) ∙ fold-roll-Expr 
 and_first : (a b : Bool) → (a && b) ≡ true → a ≡ true
 and_first true b h = refl
 and_first false b h = h
+
+pub or_second : (a b : Bool) → b ≡ true → (a || b) ≡ true
+or_second true b h = refl
+or_second false b h = h
 
 -- What is turned round in a narrow expression needs at most 126 bits.
 pub narrow-Minus : (k : ℕ) (e : Expr) → (width_of k (expr.Minus e)).narrow ≡ true → (width_of k e).bits ≤ 126

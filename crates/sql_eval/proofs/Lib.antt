@@ -7,3 +7,4 @@ pub mod TermEquations
 pub mod TestForms
 pub mod ValueEquations
 pub mod OneLines
+pub mod AsManySides

@@ -11,6 +11,7 @@ pub use Rattle.row_columns.specs.Lent
 pub use Rattle.row_columns.specs.Placed
 pub mod Resolved
 pub mod Widths
+pub mod Memory
 pub mod Run
 pub mod Within
 pub mod Resolves

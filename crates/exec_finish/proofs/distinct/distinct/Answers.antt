@@ -1,20 +1,19 @@
 use Rattle.std.proofs.Common.{◌≡◌, ◌∙◌, ◌<◌, All, [], List, get_or, map, length, sym, ap, subst, arith}
 use Rattle.std.proofs.lemmas.List.{take_all}
 use Rattle.std.proofs.lemmas.List.Elements.{All-push}
-use Rattle.std.proofs.lemmas.Option.{slice_get_within, get_or_from_slice_get}
 use Rattle.indexmap.specs.IndexSet.{insert_all}
-use Rattle.sql_eval.specs.Widths.{CanEvaluate}
+use Rattle.sql_eval.specs.Resolved.{GroupOf}
 use Rattle.exec_finish.specs.Numbered.{row_at}
-use Rattle.exec_finish.specs.Plain.{plain_row}
+use Rattle.exec_finish.specs.Plain.{group_row}
+use Rattle.exec_finish.specs.Ready.{IsReady}
 use Rattle.exec_finish.proofs.Numbers.{are_alike, numbers_distinct, put_so, put_new, put_old, all_put_more}
 use Rattle.exec_finish.proofs.distinct.distinct.Goals as goal
 use Rattle.exec_finish.proofs.distinct.distinct.Goals.{then-branch+in_ok-push, else-branch}
 
 pub new-row-requires : goal.new-row-requires
-new-row-requires c =
+new-row-requires c k d lt =
     let number = get_or c.args.numbers.now c.loop-number.number-index 0 in
-    let tuple = c.get.result in
-    subst (λ t. All (CanEvaluate t) c.args.plan.now.items) (get_or_from_slice_get c.args.tuples.now number tuple tuple c.get.ensures.exact) (c.requires.items number tuple (slice_get_within c.args.tuples.now number tuple c.get.ensures.exact))
+    subst (λ (g : GroupOf). IsReady (get_or c.args.items.now k d) number g) (sym c.at-group.ensures.exact) (c.requires.items k d lt number (c.requires.within c.loop-number.number-index 0 c.loop-number-test.true))
 
 pub loop-number-preserved : goal.loop-number-preserved
 loop-number-preserved c =
@@ -26,7 +25,8 @@ loop-number-preserved c =
     let number = get_or numbers i 0 in
     let kept = c.loop-number.kept.items in
     let before = c.loop-number.invariant in
-    let this = c.new-row.ensures.exact ∙ ap (plain_row p.star p.items []) (sym (get_or_from_slice_get tuples number c.get.result [] c.get.ensures.exact)) in
+    let this = c.new-row.ensures.exact ∙ (λ j. group_row p.star (c.requires.exprs j) [] (c.at-group.ensures.exact j).tuples) in
+    let within = c.requires.within i 0 c.loop-number-test.true in
     let more = all_put_more row numbers i kept c.loop-number-test.true before.1 in
     let put = put_so row c.loop-number.seen.keys kept number c.new-row.result this before.0 c.insert.new.self.keys c.in_ok-insert.ensures.keys in
     elim c.if-branch.branch [
@@ -35,7 +35,7 @@ loop-number-preserved c =
           let next = now ∙ sym (put_new row c.loop-number.seen.keys kept number c.new-row.result this before.0 (sym c.in_ok-insert.ensures.added ∙ w.if-branch.true)) in (
             put ∙ ap (map row) (sym next),
             next ∙ sym more,
-            subst (All (λ n. n < length tuples)) (sym now) (All-push (λ n. n < length tuples) kept number before.2 (slice_get_within tuples number c.get.result c.get.ensures.exact)),
+            subst (All (λ n. n < length tuples)) (sym now) (All-push (λ n. n < length tuples) kept number before.2 within),
           )
       | else-branch w ↦
           let now = ap (λ v. v.items) w.kept-is in

@@ -12,12 +12,12 @@ use Rattle.exec_finish.proofs.finishing.finish.Goals as goal
 pub returns : goal.returns
 returns c =
     let plan = c.args.plan.now in
-    let parts = c.into_parts-columns.result in
-    let columns = parts.2.items in
+    let parts = c.into_parts-items.result in
+    let columns = parts.3.items in
     let row = row_at parts.0.now parts.1.now columns in
     let directions = λ (keys : List KeyPlan). map (λ (key : KeyPlan). key.descending) keys in
     let told : map row c.in_ok-numbers.numbers.items ≡ (if plan.distinct then distinct c.args.rows else c.args.rows) =
-    c.in_ok-numbers.ensures.ok columns ∙ ap (λ (rows : List Output). if plan.distinct then distinct rows else rows) (sym c.into_parts-columns.ensures.exact) in
+    c.in_ok-numbers.ensures.ok columns ∙ ap (λ (rows : List Output). if plan.distinct then distinct rows else rows) (sym c.into_parts-items.ensures.exact) in
     let sorted : map row c.in_ok-numbers-2.numbers.items ≡ limited plan.limit (ordered (directions plan.keys) (if plan.distinct then distinct c.args.rows else c.args.rows)) =
-    c.in_ok-numbers-2.ensures.ok row (λ number. ap (map (value_in number)) (sym c.deref.ensures.value)) ∙ (λ i. limited plan.limit (ordered (directions (c.as_slice.ensures i)) (told i))) in
-    record { ok = IfOk-weaker c.printed.result _ _ (λ text h. h ∙ ap (answer_text plan.star) (ap (map row) c.deref-2.ensures.value ∙ sorted)) (c.printed.ensures.ok columns) }
+    c.in_ok-numbers-2.ensures.ok row (λ number. ap (map (value_in number)) (sym c.deref-2.ensures.value)) ∙ (λ i. limited plan.limit (ordered (directions (c.as_slice.ensures i)) (told i))) in
+    record { ok = IfOk-weaker c.printed.result _ _ (λ text h. h ∙ ap (answer_text plan.star) (ap (map row) c.deref-4.ensures.value ∙ sorted)) (c.printed.ensures.ok columns) }

@@ -2,7 +2,7 @@ use Rattle.std.proofs.Common.{◌∙◌, ◌++◌, ◌<◌, false, length, map, 
 use Rattle.std.specs.Prelude.{All}
 use Rattle.std.proofs.lemmas.List.Elements.{All-filter}
 use Rattle.row_versions.specs.declared.version_id.VersionId.{VersionId}
-use Rattle.query_meaning.specs.Plans.{alone, at_most, cells_under, passes}
+use Rattle.query_meaning.specs.Plans.{one_sided, at_most, cells_under, passes}
 use Rattle.scan_batches.specs.Reading.{document_in, room_for}
 use Rattle.scan_batches.proofs.Chunks.{chunk}
 use Rattle.scan_batches.proofs.Wanted.{All-at_most}
@@ -12,7 +12,7 @@ pub append-requires-clause-standing : goal.append-requires-clause-standing
 append-requires-clause-standing c =
     let s = c.args.layout.now in
     let stands = λ (v : VersionId). v.0 < length s.history.versions in
-    let keep = λ (v : VersionId). passes c.args.test.now (alone (cells_under c.args.refs.now false (document_in s v))) in
+    let keep = λ (v : VersionId). passes c.args.test.now (one_sided (cells_under c.args.refs.now false (document_in s v))) in
     let kept : All stands c.in_ok-kept.kept.items = subst (All stands) (sym c.in_ok-kept.ensures.ok) (All-filter keep stands c.in_ok-seen.seen.items c.in_ok-seen.ensures.standing) in
     let few : All stands c.cut.new.versions.items = subst (All stands) (sym c.cut.ensures.exact) (All-at_most stands (room_for c.args.most c.len.result) c.in_ok-kept.kept.items kept) in
     subst (All stands) (sym c.deref.ensures.value) few

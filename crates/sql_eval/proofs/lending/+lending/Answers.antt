@@ -13,9 +13,10 @@ use Rattle.sql_eval.specs.Resolved.{GroupOf, RowGroup, Gives, gives, of_each, va
 use Rattle.sql_eval.specs.Operators.{number_of, value_of_number, sum_of, product_of}
 use Rattle.sql_eval.specs.Aggregates.{chosen, put_to, put_from}
 use Rattle.sql_eval.specs.Widths.{width_of, width_in, bits_of}
+use Rattle.sql_eval.specs.Memory.{some_reads, some_addend_reads}
 use Rattle.sql_eval.specs.Within.{IsNumberWithin, IsWithin, magnitude}
 use Rattle.sql_eval.proofs.Numbers.{next, sum_fits, sum_next, sum_same, product_fits, product_next, product_same, turn, magnitude_within, total_fits, total_within}
-use Rattle.sql_eval.proofs.Expressions.{width_in-is, added_over-is, signed_some, narrow-Minus, some_within_more, each_adds, bits-Product}
+use Rattle.sql_eval.proofs.Expressions.{width_in-is, added_over-is, signed_some, narrow-Minus, some_within_more, each_adds, bits-Product, or_second}
 use Rattle.sql_eval.proofs.TestForms.{or_told, and_told, not_told, compare_told, null_told, among_told, between_told, like_told, any_of_told}
 use Rattle.sql_eval.proofs.ValueEquations as exprs
 use Rattle.sql_eval.proofs.lending.+lending.Goals as goal
@@ -53,6 +54,7 @@ product-loop-member-preserved t c =
     let low : nat_abs r ≤ nat_abs total * nat_abs n = rw same_too c.times-total.ensures.within in
     record {
       narrow = search rules;
+      reads = λ more. held.reads (ap some_reads here ∙ or_second _ (some_reads rest) more);
       within = product_next held.within.0 (width c.member-item.result).bits (bits_of (map width rest)) (bits_of (map width left)) _ total n r
           (ap (λ es. bits_of (map width es)) here) held.within.1 inside held.within.2 low;
       same = product_same total n r (number_of (value c.member-item.result)) (numbers rest) (numbers left)
@@ -93,6 +95,7 @@ sum-loop-addend-preserved t c =
     let low : nat_abs r ≤ nat_abs total + nat_abs n = rw same_too c.plus-total.ensures.within in
     record {
       narrow = search rules;
+      reads = λ more. held.reads (ap some_addend_reads here ∙ or_second _ (some_addend_reads rest) more);
       within = sum_next held.within.0 (width_in k a).bits (bits_of (map (width_in k) rest)) (bits_of (map (width_in k) left)) _ total n r
           (ap (λ es. bits_of (map (width_in k) es)) here) held.within.1 inside held.within.2 low;
       same = sum_same total (if a.minus then neg_ℤ n else n) r (adds a) (map adds rest) (map adds left)
@@ -158,7 +161,7 @@ pub value-returns-in_ok-product-in-Product-clause-within : goal.value-returns-in
 value-returns-in_ok-product-in-Product-clause-within t c =
     let k = c.args.group.now.tables in
     let same = ap (λ (members : List Expr). sum (bits_of (map (width_of k) members))) c.as_slice-in-Product.ensures
-        ∙ sym (ap (λ e. (width_of k e).bits) c.in-Product.is ∙ bits-Product k c.in-Product.members) in
+    ∙ sym (ap (λ e. (width_of k e).bits) c.in-Product.is ∙ bits-Product k c.in-Product.members) in
     subst (λ bits. IfSome c.lent-in-Product.result (IsWithin bits)) same (c.lent-in-Product.ensures.within _ c.in_ok-product-in-Product.ensures.within)
 
 pub value-returns-in_ok-truth_over-in-Or-clause-ok : goal.value-returns-in_ok-truth_over-in-Or-clause-ok

@@ -1,4 +1,4 @@
-use Rattle.std.proofs.Common.{◌≡◌, ◌∙◌, ℕ, List, [], ◌∷◌, Some, length, map, slice_get, sym, ap, subst, rules}
+use Rattle.std.proofs.Common.{◌≡◌, ◌∙◌, ℕ, List, [], ◌∷◌, Some, length, map, slice_get, refl, sym, ap, subst, arith, rules}
 use Rattle.std.proofs.lemmas.Option.{same_Some}
 use Rattle.std.proofs.lemmas.Result.{IfOk-weaker}
 use Rattle.doc_values.specs.Doc.{Fields}
@@ -17,6 +17,7 @@ use Rattle.commit_core.specs.Query.{documents_asked}
 use Rattle.commit_core.specs.State.{State, IsState, Row, documents_at, documents_of_rows}
 use Rattle.shown_rows.specs.Rows.{rows_at}
 use Rattle.commit_core.specs.Commits.{CoreOf}
+use Rattle.commit_core.proofs.Agreements.{one_asked, one_reference}
 use Rattle.commit_core.proofs.Found.{documents-found, documents-none, found-settled}
 use Rattle.commit_core.proofs.Scanned.{none-read}
 use Rattle.commit_core.proofs.Written.{length-texts}
@@ -33,11 +34,21 @@ asked_found s one names name state lone tables first =
 abbrev ReadsWhatIsAsked : Type 0
 ReadsWhatIsAsked = (question : Select) (plan : SelectPlan) (columns : List ColRef) → IsPlanOf question plan → plan.refs ≡ columns ∷ [] → (documents : List Fields) → rows_alone plan columns documents ∷ [] ≡ rows_under plan.refs question (documents ∷ [])
 
+-- a list of one item, whose first is known
+one_of : {A : Type 0} (xs : List A) (x : A) → length xs ≡ 1 → slice_get xs 0 ≡ Some x → xs ≡ x ∷ []
+one_of [] x e first = absurd (omega (arith, e))
+one_of (y ∷ []) x e first = ap (λ z. z ∷ []) (same_Some y x first)
+one_of (y ∷ z ∷ more) x e first = absurd (omega (arith, e))
+
 -- a plan has the references of one table
 one_list : (resolved : SelectPlan) (plan : Plan) (columns : List ColRef) → IsReadAs resolved plan → slice_get resolved.refs 0 ≡ Some columns → resolved.refs ≡ columns ∷ []
-one_list resolved plan columns asked first =
-    let lone = asked.resolves.refs in
-    lone ∙ ap (λ (cs : List ColRef). cs ∷ []) (same_Some _ columns (ap (λ (refs : List (List ColRef)). slice_get refs 0) (sym lone) ∙ first))
+one_list resolved plan columns asked first = one_of resolved.refs columns (one_reference resolved plan asked) first
+
+-- a question has the table that its plan reads first
+one_table : (ts : List Table) → length ts ≡ 1 → (t : Table) × (ts ≡ t ∷ [])
+one_table [] e = absurd (omega (arith, e))
+one_table (t ∷ []) e = (t, refl)
+one_table (t ∷ u ∷ more) e = absurd (omega (arith, e))
 
 pub rows-requires-clause-settled : goal.rows-requires-clause-settled
 rows-requires-clause-settled c =
@@ -45,7 +56,7 @@ rows-requires-clause-settled c =
     (sym c.in-Some-get-2.ensures.exact)
 
 pub rows-requires-clause-tested : goal.rows-requires-clause-tested
-rows-requires-clause-tested c = let asked = c.requires.1 in c.plans_can_be_run.ensures.tested asked.question c.args.plan.now asked.resolves asked.runs
+rows-requires-clause-tested c = let asked = c.requires.1 in c.plans_can_be_run.ensures.tested asked.question c.args.plan.now asked.resolves asked.runs (one_reference c.args.plan.now c.requires.0 asked)
 
 -- the rows of documents of the collection of a name
 found_in : ReadsWhatIsAsked → (plan : SelectPlan) (columns : List ColRef) (name : List ℕ) (state : State) (documents : List Fields) (rows : List Cells) → slice_get plan.from.tables 0 ≡ Some name → slice_get plan.refs 0 ≡ Some columns
@@ -53,9 +64,10 @@ found_in : ReadsWhatIsAsked → (plan : SelectPlan) (columns : List ColRef) (nam
     → (p : Plan) (asked : IsReadAs plan p) → rows ∷ [] ≡ rows_under plan.refs asked.question (documents_asked asked.question state)
 found_in reads plan columns name state documents rows first one found is p asked =
     let s = asked.question in
+    let lone = one_table s.tables (one_asked s asked.asked) in
     ap (λ (read : List Cells). read ∷ []) (is ∙ ap (rows_alone plan columns) (sym found))
     ∙ reads s plan columns asked.resolves (one_list plan p columns asked one) (documents_at name state)
-    ∙ ap (rows_under plan.refs s) (asked_found s asked.asked.table plan.from.tables name state asked.asked.tables asked.resolves.tables first)
+    ∙ ap (rows_under plan.refs s) (asked_found s lone.0 plan.from.tables name state lone.1 asked.resolves.tables first)
 
 pub returns-in-Some-get-2 : goal.returns-in-Some-get-2
 returns-in-Some-get-2 c =
