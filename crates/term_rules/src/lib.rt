@@ -21,5 +21,5 @@ pub use grouped_references::all_grouped;
 pub use groupings::Groupings;
 pub use own_kinds::{own_kind, wanted_beside, wanted_inside};
 pub use references::all_bound;
-pub use tables::table_of;
+pub use tables::{is_bound, table_of};
 pub use widths::width;

@@ -16,8 +16,8 @@ pub fn table_of(scope: &[&str], column: &Ref) -> Option<usize>
     }
 }
 
-// Whether a reference is to a table in scope.
-pub(crate) fn is_bound(scope: &[&str], column: &Ref) -> bool
+/// Whether a reference is to a table in scope.
+pub fn is_bound(scope: &[&str], column: &Ref) -> bool
     ensures exact { result ≡ is_bound (map (λ a. a.now) scope.now) column.now }
 {
     match &column.qualifier {

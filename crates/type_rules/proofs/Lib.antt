@@ -1,12 +1,1 @@
-pub mod Comparisons
-pub mod Bits
-pub mod TermFolds
-pub mod ExprFolds
-pub mod Noting
-pub mod Running
-pub mod Runs
-pub mod ColumnsNoted
-pub mod Made
-pub mod Chains
-pub mod Planned
 pub mod Naming

@@ -10,3 +10,5 @@ pub mod Fault
 pub mod Runnable
 pub mod Plan
 pub mod Steps
+pub mod Parts
+pub mod Placed

@@ -1,5 +1,5 @@
 -- What these rules need of a statement that a text spells.
-use Rattle.std.specs.Prelude.{◌≡◌, ℕ, suc, ◌≤◌, Bool, true, false, not, List, [], ◌∷◌, length, Option, None, is_some, if◌then◌else◌}
+use Rattle.std.specs.Prelude.{◌≡◌, ℕ, suc, ◌≤◌, Bool, true, false, not, List, [], ◌∷◌, length, Option, Some, None, is_some, if◌then◌else◌}
 use Rattle.std.specs.List.{list_all}
 use Rattle.sql_tree.specs.declared.join_way.JoinWay.{JoinWay}
 use Rattle.sql_tree.specs.declared.join_way.JoinWay.TheVariants as join_way
@@ -14,6 +14,15 @@ use Rattle.type_rules.specs.Places.{PlacedTerm, places_of, update_places, deleti
 -- Each term is one that a text may spell.
 abbrev pub places_written : List PlacedTerm → Bool
 places_written places = list_all (λ p. is_written p.term) places
+
+-- A condition, if there is one, is a term that a text may spell.
+abbrev pub condition_written : Option Term → Bool
+condition_written None = true
+condition_written (Some t) = is_written t
+
+-- Each condition of a join is.
+abbrev pub joins_written : List Join → Bool
+joins_written js = list_all (λ j. condition_written j.on) js
 
 -- Tables with a comma between them have no condition.
 abbrev pub is_comma : JoinWay → Bool

@@ -1,65 +1,69 @@
-ghost use Rattle.std.specs.Prelude.{◌≡◌, true, false, [], ◌∷◌, map, None, IfOk, IfSome};
-ghost use Rattle.std.specs.List.{flat_map, list_all};
-ghost use Rattle.type_rules.specs.Places.{key_term, condition, places_of};
-ghost use Rattle.type_rules.specs.Written.{IsQuestion, is_written};
-ghost use Rattle.type_rules.specs.Names.{every_ref, is_bound};
-ghost use Rattle.type_rules.specs.Fault.{question_fault};
-ghost use Rattle.type_rules.specs.Uses.{reader_of, place_uses};
-ghost use Rattle.type_rules.specs.Plan.{ConditionResolves, IsPlanOf};
-ghost use Rattle.type_rules.specs.Steps.{Comes, AreResolved, AreParts, has_numerals, HaveNumerals, HasNumerals};
+ghost use Rattle.std.specs.Prelude.{◌≡◌, true, [], ◌∷◌, map, None, IfOk};
+ghost use Rattle.type_rules.specs.Places.{scope_of, update_places, deletion_places};
+ghost use Rattle.type_rules.specs.Written.{IsQuestion, IsUpdate, places_written};
+ghost use Rattle.type_rules.specs.Names.{are_different, set_names};
+ghost use Rattle.type_rules.specs.Groups.{is_grouped};
+ghost use Rattle.type_rules.specs.Fault.{question_fault, write_fault};
+ghost use Rattle.type_rules.specs.Plan.{IsPlanOf, UpdateIsPlanned, DeletionIsPlanned};
+ghost use Rattle.type_rules.specs.Runnable.{CanBeRun, UpdateCanBeRun, DeletionCanBeRun};
+ghost use Rattle.type_rules.specs.Parts.{PartsOf};
 
 use crate::aliases::Aliases;
-use crate::columns::Columns;
-use crate::place::key_term;
 use crate::plan_parts::PlanParts;
-use crate::resolving::resolve;
-use crate::rules_kept::table;
-use doc_values::{ColRef, Kind, Utf};
-use sql_eval::{Expr, FromPlan, KeyPlan, SelectPlan};
-use sql_tree::{Item, Key, Select, Term};
+use crate::resolved_parts::{
+    resolve_condition, resolve_groupings, resolve_items, resolve_joins, resolve_keys, resolve_sets,
+};
+use doc_values::{ColRef, Utf};
+use resolved_terms::Columns;
+use sql_eval::{DeletePlan, FromPlan, SelectPlan, UpdatePlan};
+use sql_tree::{Select, Set, Table, Term};
 use sqlite_items::Items;
 use std::alloc::{AllocError, Global};
 
-// The plan of a question that keeps the rules.
+// The plan of a question that keeps the rules, where its tables have these aliases.
 pub(crate) fn plan<'a>(
     alloc: Global,
     select: &'a Select,
+    scope: Vec<&'a str>,
     aliases: &Aliases<'a>,
+    grouped: bool,
 ) -> Result<SelectPlan, AllocError>
     requires question { IsQuestion select.now }
+    requires scope { map (λ a. a.now) scope.items ≡ scope_of select.now }
     requires aliases { aliases.now ≡ select.now.items }
+    requires grouped { grouped ≡ is_grouped select.now }
     requires kept { question_fault select.now ≡ None }
     ensures ok { IfOk result (λ plan. IsPlanOf select.now plan) }
-    ensures numerals { IfOk result HasNumerals }
+    ensures runs { IfOk result CanBeRun }
 {
-    let mut columns = Columns::new(alloc);
+    let mut columns = Columns::new(alloc, scope)?;
     let parts = resolve_parts(alloc, &mut columns, select, aliases)?;
-    let tables = list_of(alloc, table(select).collection.copy()?)?;
-    let refs = list_of(alloc, columns.to_items(alloc)?)?;
-    Ok(assembled(alloc, select, tables, refs, parts))
+    let tables = collections(alloc, select.tables.as_slice())?;
+    let refs = columns.to_items(alloc)?;
+    Ok(assembled(select, tables, refs, grouped, parts))
 }
 
-// A plan over one table, of its parts.
+// A plan of its parts.
 fn assembled(
-    alloc: Global,
     select: &Select,
     tables: Items<Utf>,
     refs: Items<Items<ColRef>>,
+    grouped: bool,
     parts: PlanParts,
 ) -> SelectPlan
-    ensures exact { result ≡ record { from = record { tables = tables; joins = [] }; refs = refs; star = select.now.star; test = parts.test; grouping = []; grouped = false; having = None; items = parts.items; distinct = select.now.distinct; keys = parts.keys; limit = select.now.limit } }
+    ensures exact { result ≡ record { from = record { tables = tables; joins = parts.joins }; refs = refs; star = select.now.star; test = parts.test; grouping = parts.grouping; grouped = grouped; having = parts.having; items = parts.items; distinct = select.now.distinct; keys = parts.keys; limit = select.now.limit } }
 {
     SelectPlan {
         from: FromPlan {
             tables,
-            joins: Items::new(alloc),
+            joins: parts.joins,
         },
         refs,
         star: select.star,
         test: parts.test,
-        grouping: Items::new(alloc),
-        grouped: false,
-        having: None,
+        grouping: parts.grouping,
+        grouped,
+        having: parts.having,
         items: parts.items,
         distinct: select.distinct,
         keys: parts.keys,
@@ -67,86 +71,87 @@ fn assembled(
     }
 }
 
-// The expressions of a question.
+// The expressions of a question, and the slots of its groupings.
 fn resolve_parts<'a>(
     alloc: Global,
     columns: &mut Columns<'a>,
     select: &'a Select,
     aliases: &Aliases<'a>,
 ) -> Result<PlanParts, AllocError>
+    requires question { IsQuestion select.now }
     requires aliases { aliases.now ≡ select.now.items }
-    requires written { list_all (λ p. is_written p.term) (places_of select.now) ≡ true }
-    ensures ok { IfOk result (λ parts. AreParts columns.old columns.new select.now parts.items parts.test (map (λ k. k.expr) parts.keys)) }
-    ensures descending { IfOk result (λ parts. map (λ k. k.descending) parts.keys ≡ map (λ k. k.descending) select.now.keys) }
-    ensures numerals { IfOk result (λ parts. HaveNumerals parts.items parts.test (map (λ k. k.expr) parts.keys)) }
+    ensures ok { IfOk result (λ parts. PartsOf columns.old columns.new select.now parts) }
 {
+    let grouping = resolve_groupings(alloc, columns, select.grouping.as_slice())?;
     let items = resolve_items(alloc, columns, select.items.as_slice())?;
+    let joins = resolve_joins(alloc, columns, select.joins.as_slice())?;
     let test = resolve_condition(alloc, columns, &select.test)?;
+    let having = resolve_condition(alloc, columns, &select.having)?;
     let keys = resolve_keys(alloc, columns, aliases, select.keys.as_slice())?;
-    Ok(PlanParts { items, test, keys })
+    Ok(PlanParts {
+        grouping,
+        items,
+        joins,
+        test,
+        having,
+        keys,
+    })
 }
 
-// The expressions of the items.
-fn resolve_items<'a>(
-    alloc: Global,
-    columns: &mut Columns<'a>,
-    items: &'a [Item],
-) -> Result<Items<Expr>, AllocError>
-    requires { list_all (λ p. p) (map is_written (map (λ i. i.expr) items.now)) ≡ true }
-    ensures ok { IfOk result (λ es. AreResolved columns.old columns.new (flat_map (λ p. p.uses None) (map reader_of (map (λ i. i.expr) items.now))) (λ _. None) (map (λ i. i.expr) items.now) es) }
-    ensures numerals { IfOk result (λ es. list_all (λ b. b) (map has_numerals es) ≡ true) }
+// The names of the collections of tables.
+fn collections(alloc: Global, tables: &[Table]) -> Result<Items<Utf>, AllocError>
+    ensures ok { IfOk result (λ names. names ≡ map (λ t. t.collection) tables.now) }
 {
-    let mut exprs = Items::new(alloc);
-    for item in items {
-        exprs.push(resolve(alloc, columns, &item.expr, None)?)?;
+    let mut names = Items::new(alloc);
+    for table in tables {
+        names.push(table.collection.copy()?)?;
     }
-    Ok(exprs)
+    Ok(names)
 }
 
-// The expression of a condition, where there is one.
-fn resolve_condition<'a>(
+// The plan of an update that keeps the rules.
+pub(crate) fn update_plan<'a>(
     alloc: Global,
-    columns: &mut Columns<'a>,
+    collection: &'a Utf,
+    scope: Vec<&'a str>,
+    sets: &'a [Set],
     test: &'a Option<Term>,
-) -> Result<Option<Expr>, AllocError>
-    requires { list_all (λ p. is_written p.term) (condition test.now) ≡ true }
-    ensures ok { IfOk result (λ e. Comes columns.old columns.new (flat_map place_uses (condition test.now)) (λ alias. list_all (λ p. every_ref (is_bound (alias ∷ [])) p.term) (condition test.now)) (λ scope refs. ConditionResolves scope refs test.now e)) }
-    ensures numerals { IfOk result (λ e. IfSome e (λ e. has_numerals e ≡ true)) }
+) -> Result<UpdatePlan, AllocError>
+    requires written { IsUpdate collection.now sets.now test.now }
+    requires scope { map (λ a. a.now) scope.items ≡ collection.now ∷ [] }
+    requires kept { write_fault (are_different (set_names sets.now)) (update_places collection.now sets.now test.now) ≡ None }
+    ensures ok { IfOk result (λ plan. UpdateIsPlanned collection.now sets.now test.now plan) }
+    ensures runs { IfOk result UpdateCanBeRun }
 {
-    match test {
-        Some(term) => Ok(Some(resolve(alloc, columns, term, Some(Kind::Bool))?)),
-        None => Ok(None),
-    }
+    let mut columns = Columns::new(alloc, scope)?;
+    let sets = resolve_sets(alloc, &mut columns, sets)?;
+    let test = resolve_condition(alloc, &mut columns, test)?;
+    Ok(UpdatePlan {
+        collection: collection.copy()?,
+        refs: columns.to_items_of_one(alloc)?,
+        sets,
+        test,
+    })
 }
 
-// The expressions of the keys, each with its direction.
-fn resolve_keys<'a>(
+// The plan of a deletion that keeps the rules.
+pub(crate) fn delete_plan<'a>(
     alloc: Global,
-    columns: &mut Columns<'a>,
-    aliases: &Aliases<'a>,
-    keys: &'a [Key],
-) -> Result<Items<KeyPlan>, AllocError>
-    requires { list_all (λ p. p) (map is_written (map (key_term aliases.now) keys.now)) ≡ true }
-    ensures ok { IfOk result (λ ks. AreResolved columns.old columns.new (flat_map (λ p. p.uses None) (map reader_of (map (key_term aliases.now) keys.now))) (λ _. None) (map (key_term aliases.now) keys.now) (map (λ k. k.expr) ks)) }
-    ensures descending { IfOk result (λ ks. map (λ k. k.descending) ks ≡ map (λ k. k.descending) keys.now) }
-    ensures numerals { IfOk result (λ ks. list_all (λ b. b) (map has_numerals (map (λ k. k.expr) ks)) ≡ true) }
+    collection: &'a Utf,
+    scope: Vec<&'a str>,
+    test: &'a Option<Term>,
+) -> Result<DeletePlan, AllocError>
+    requires written { places_written (deletion_places collection.now test.now) ≡ true }
+    requires scope { map (λ a. a.now) scope.items ≡ collection.now ∷ [] }
+    requires kept { write_fault true (deletion_places collection.now test.now) ≡ None }
+    ensures ok { IfOk result (λ plan. DeletionIsPlanned collection.now test.now plan) }
+    ensures runs { IfOk result DeletionCanBeRun }
 {
-    let mut plans = Items::new(alloc);
-    for key in keys {
-        let expr = resolve(alloc, columns, key_term(aliases, key), None)?;
-        plans.push(KeyPlan {
-            expr,
-            descending: key.descending,
-        })?;
-    }
-    Ok(plans)
-}
-
-// A list of one.
-fn list_of<T: Drop>(alloc: Global, item: T) -> Result<Items<T>, AllocError>
-    ensures ok { IfOk result (λ list. list ≡ item ∷ []) }
-{
-    let mut list = Items::new(alloc);
-    list.push(item)?;
-    Ok(list)
+    let mut columns = Columns::new(alloc, scope)?;
+    let test = resolve_condition(alloc, &mut columns, test)?;
+    Ok(DeletePlan {
+        collection: collection.copy()?,
+        refs: columns.to_items_of_one(alloc)?,
+        test,
+    })
 }

@@ -1,4 +1,4 @@
-use Rattle.std.proofs.Common.{◌≡◌, map, drop, ◌+◌, refl, [], ◌∷◌, Some, None, sym, ap, subst, ◌∙◌}
+use Rattle.std.proofs.Common.{◌≡◌, map, drop, ◌+◌, refl, [], ◌∷◌, Some, None, sym, ap, subst, ◌∙◌, rules}
 use Rattle.std.specs.List.{list_all}
 use Rattle.doc_values.specs.declared.kind.Kind.TheVariants as kind
 use Rattle.doc_values.specs.declared.compare_op.CompareOp.TheVariants as compare_op
@@ -329,4 +329,4 @@ test-returns-in_ok-note-in-AnyOf-clause-ok t c want =
 pub between-boxed_beside-requires-2 : goal.between-boxed_beside-requires-2
 between-boxed_beside-requires-2 t c =
     let high = written-high c.args.term.now c.in-Between.arg c.in-Between.low c.in-Between.high c.in-Between.negated c.in-Between.is c.requires.written in
-    record { written = ap is_written c.get-4.ensures ∙ high }
+    (search rules, record { written = ap is_written c.get-4.ensures ∙ high })
