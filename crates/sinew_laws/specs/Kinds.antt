@@ -5,7 +5,6 @@ use Rattle.doc_values.specs.declared.kind.Kind.{Kind}
 use Rattle.doc_values.specs.declared.kind.Kind.TheVariants as kind
 use Rattle.doc_values.specs.declared.value.Value.{Value}
 use Rattle.doc_values.specs.Value.{kind_of}
-use Rattle.doc_values.specs.Doc.{Fields}
 use Rattle.sql_tree.specs.declared.addend.Addend.{Addend}
 use Rattle.sql_tree.specs.declared.agg_call.AggCall.TheVariants as agg_call
 use Rattle.sql_tree.specs.declared.term.Term.{Term}
@@ -14,7 +13,7 @@ use Rattle.sql_tokens.specs.Forms.{is_symbol}
 use Rattle.sql_grammar.specs.Words.{mark_of_symbol}
 use Rattle.sql_eval.specs.declared.truth_value.Truth.TheVariants.{Unknown}
 use Rattle.sql_eval.specs.Kinds.{wanted_beside}
-use Rattle.sql_eval.specs.Meaning.{meaning}
+use Rattle.sql_eval.specs.Meaning.{Group, meaning}
 use Rattle.sql_eval.specs.Operators.{comparison}
 use Rattle.type_rules.specs.Kinds.{sides_fit, fitting_of, fits}
 
@@ -22,13 +21,13 @@ use Rattle.type_rules.specs.Kinds.{sides_fit, fitting_of, fits}
 abbrev pub HaveMarks : Type 0
 HaveMarks = (bytes : List ℕ) → is_some (mark_of_symbol bytes) ≡ is_symbol bytes
 
--- What a term means over documents, where a kind is wanted of it or none, is a value of this kind, or NULL.
-abbrev pub MeansOneOf : List (List ℕ) → List (Option Fields) → Kind → Term → Option Kind → Type 0
-MeansOneOf scope sides k t want = IfSome (meaning scope sides t want) (λ v. kind_of v ≡ k)
+-- What a term means over a group of tuples of documents, where a kind is wanted of it or none, is a value of this kind, or NULL.
+abbrev pub MeansOneOf : List (List ℕ) → Group → Kind → Term → Option Kind → Type 0
+MeansOneOf scope group k t want = IfSome (meaning scope group t want) (λ v. kind_of v ≡ k)
 
 -- A term that keeps the rule of kinds where a kind is wanted of it means a value of that kind there, or NULL.
 abbrev pub GivesWhatIsWanted : Type 0
-GivesWhatIsWanted = (scope : List (List ℕ)) (sides : List (Option Fields)) (t : Term) (want : Kind) → fits t (Some want) ≡ true → MeansOneOf scope sides want t (Some want)
+GivesWhatIsWanted = (scope : List (List ℕ)) (group : Group) (t : Term) (want : Kind) → fits t (Some want) ≡ true → MeansOneOf scope group want t (Some want)
 
 -- A term has a part of which it wants a kind: a truth value of what AND, OR and NOT join, a number of what is computed with and of what SUM adds up, a text of what LIKE tests.
 pub data WantsOf : Term → Term → Kind → Type 0 where
@@ -43,8 +42,8 @@ pub data WantsOf : Term → Term → Kind → Type 0 where
 
 -- Where a term keeps the rule of kinds, a part of which it wants a kind keeps it too where that kind is wanted, and means a value of that kind, or NULL.
 abbrev pub HasFittingParts : Type 0
-HasFittingParts = (scope : List (List ℕ)) (sides : List (Option Fields)) (t part : Term) (want : Option Kind) (k : Kind) → WantsOf t part k → fits t want ≡ true →
-    (fits part (Some k) ≡ true) × MeansOneOf scope sides k part (Some k)
+HasFittingParts = (scope : List (List ℕ)) (group : Group) (t part : Term) (want : Option Kind) (k : Kind) → WantsOf t part k → fits t want ≡ true →
+    (fits part (Some k) ≡ true) × MeansOneOf scope group k part (Some k)
 
 -- A term compares two of its parts.
 pub data Compares : Term → Term → Term → Type 0 where
@@ -62,13 +61,13 @@ abbrev pub HoldsBeside : Term → Term → Type 0
 HoldsBeside t u = sides_fit (fitting_of t) (fitting_of u) ≡ true
 
 -- What two terms mean beside one another is of a kind, or NULL.
-abbrev pub MeanOneKind : List (List ℕ) → List (Option Fields) → Kind → Term → Term → Type 0
-MeanOneKind scope sides k t u = MeansOneOf scope sides k t (wanted_beside (own_of t) (own_of u)) × MeansOneOf scope sides k u (wanted_beside (own_of u) (own_of t))
+abbrev pub MeanOneKind : List (List ℕ) → Group → Kind → Term → Term → Type 0
+MeanOneKind scope group k t u = MeansOneOf scope group k t (wanted_beside (own_of t) (own_of u)) × MeansOneOf scope group k u (wanted_beside (own_of u) (own_of t))
 
 -- Where a term keeps the rule of kinds, so do two parts that it compares; and if one of them has a kind by itself, both mean values of that kind, or NULL.
 abbrev pub ComparesOneKind : Type 0
-ComparesOneKind = (scope : List (List ℕ)) (sides : List (Option Fields)) (whole t u : Term) (want : Option Kind) → Compares whole t u → fits whole want ≡ true →
-    HoldsBeside t u × ((k : Kind) → ((own_of t ≡ Some k) ⊎ (own_of u ≡ Some k)) → MeanOneKind scope sides k t u)
+ComparesOneKind = (scope : List (List ℕ)) (group : Group) (whole t u : Term) (want : Option Kind) → Compares whole t u → fits whole want ≡ true →
+    HoldsBeside t u × ((k : Kind) → ((own_of t ≡ Some k) ⊎ (own_of u ≡ Some k)) → MeanOneKind scope group k t u)
 
 -- The comparison of two values is unknown exactly where their kinds differ, whatever the sign.
 abbrev pub IsUnknownAcrossKinds : Type 0
