@@ -106,7 +106,7 @@ first_stays [] h = All-from_recursion (λ side. IfSome side IsPlain) [] tt
 first_stays (sides ∷ group) h = h.0
 
 -- A fact of the argument of an aggregate; any other level has none to give.
-abbrev OfArgument : {A B : Type 0} → (A → Type 0) → Term-F A B → Type 0
+abbrev pub OfArgument : {A B : Type 0} → (A → Type 0) → Term-F A B → Type 0
 OfArgument P (Term-F.Number n) = Unit {0}
 OfArgument P (Term-F.Text text) = Unit {0}
 OfArgument P (Term-F.Bool b) = Unit {0}

@@ -1,23 +1,14 @@
 ghost use Rattle.std.specs.Prelude.{◌≡◌, ℕ, IfSome, option_map, ◌+◌, ◌*◌, ◌≤◌, ◌^◌, nat_abs, neg_ℤ, ◌+ℤ◌, ◌*ℤ◌, if◌then◌else◌};
 ghost use Rattle.sql_eval.specs.Within.{IsNumberWithin};
 
-// The number with its sign turned round.
-fn negative(n: i128) -> i128
-    requires { IsNumberWithin 126 n }
-    ensures exact { result ≡ neg_ℤ n }
-    ensures within { nat_abs result ≤ nat_abs n }
-{
-    -n
-}
-
-// The same of a number that may be missing.
-pub(crate) fn negative_if(n: Option<i128>) -> Option<i128>
+// The number with its sign turned round, if it is there.
+pub(crate) fn negative(n: Option<i128>) -> Option<i128>
     requires { IfSome n (IsNumberWithin 126) }
     ensures exact { result ≡ option_map neg_ℤ n }
     ensures within { (bits : ℕ) → IfSome n (IsNumberWithin bits) → IfSome result (IsNumberWithin bits) }
 {
     match n {
-        Some(n) => Some(negative(n)),
+        Some(n) => Some(-n),
         None => None,
     }
 }

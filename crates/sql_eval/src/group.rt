@@ -12,8 +12,8 @@ use std::alloc::Global;
 use std::marker::Model;
 use std::slice;
 
-/// A group of tuples, lent: the rows of the tables, and of each tuple the numbers of its rows. It also tells how many
-/// tables the tuples are of, so that an empty group does, and where what reads an array has its memory from.
+/// A group of tuples, lent: the rows of the tables, and of each tuple the numbers of its rows. An empty one tells too of
+/// how many tables it is.
 #[derive(Drop)]
 pub struct Group<'a> {
     alloc: Global,
@@ -91,8 +91,7 @@ impl<'a> Group<'a> {
         }
     }
 
-    /// The value of a column in the first tuple; none where it is NULL, where the side is missing, and where there is no
-    /// tuple or no such column.
+    /// The value of a column in the first tuple; none where it is NULL, and where there is no such row or column.
     pub fn cell(&self, slot: Slot) -> Option<ValueRef<'a>>
         ensures exact { option_map owned result ≡ cell_at (first_of self.now.tuples) slot }
     {

@@ -10,7 +10,7 @@ ghost use Rattle.sql_eval.specs.Within.{IsWithin, IsNumberWithin};
 
 use crate::addend::Addend;
 use crate::aggregation::{better, lent, plus_if};
-use crate::arithmetic::{negative_if, plus, times};
+use crate::arithmetic::{negative, plus, times};
 use crate::expr::Expr;
 use crate::group::Group;
 use crate::operators::{comparison, likeness, membership, nullness};
@@ -39,7 +39,7 @@ pub fn value<'a>(expr: &'a Expr, group: &Group<'a>) -> Result<Option<ValueRef<'a
         Expr::Wanted { column, .. } => Ok(group.cell(*column)),
         Expr::Sum(addends) => Ok(lent(sum(addends.as_slice(), group)?)),
         Expr::Product(members) => Ok(lent(product(members.as_slice(), group)?)),
-        Expr::Minus(arg) => Ok(lent(negative_if(number(arg.get(), group)?))),
+        Expr::Minus(arg) => Ok(lent(negative(number(arg.get(), group)?))),
         Expr::Or(_)
         | Expr::And(_)
         | Expr::Not(_)

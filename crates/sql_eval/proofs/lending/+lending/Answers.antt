@@ -136,8 +136,8 @@ total-returns-clause-within t c =
     let all : c.loop-index.index ≤ length group.tuples = omega (arith, c.loop-index.auto.index-end, c.len-index-end.ensures.exact) in
     total_within c.loop-index.total c.loop-index.index bits (21 * group.tables) c.loop-index.invariant.within (le_trans all c.requires.few.most)
 
-pub value-negative_if-requires : goal.value-negative_if-requires
-value-negative_if-requires t c =
+pub value-negative-requires : goal.value-negative-requires
+value-negative-requires t c =
     let k = c.args.group.now.tables in
     let arg = c.get.result.now in
     let whole : c.args.expr.now ≡ expr.Minus arg = c.in-Minus.is ∙ ap expr.Minus (sym c.get.ensures) in
