@@ -3,3 +3,6 @@ pub mod Folds
 pub mod Front
 pub mod Back
 pub mod Added
+pub mod Matched
+pub mod RowSteps
+pub mod Fated
